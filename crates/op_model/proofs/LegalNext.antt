@@ -1,0 +1,24 @@
+-- A history is legal exactly where its beginning is and each entry behind it may follow.
+use Rattle.std.proofs.Common.{◌≡◌, ◌↔◌, subst, sym, List, [], ◌∷◌, ◌++◌, append_assoc, append-nil}
+use Rattle.op_model.specs.Legal.{IsLegal, IsLegalFrom, IsNext}
+use Rattle.op_model.specs.declared.act.Entry.{Entry}
+
+pub legal_from-split : (before xs ys : List Entry) → IsLegalFrom before (xs ++ ys) → IsLegalFrom before xs × IsLegalFrom (before ++ xs) ys
+legal_from-split before [] ys legal = (tt, rw append-nil legal)
+legal_from-split before (x ∷ xs) ys legal =
+    let rest = legal_from-split (before ++ x ∷ []) xs ys legal.1 in
+    ((legal.0, rest.0), subst (λ b. IsLegalFrom b ys) (append_assoc before (x ∷ []) xs) rest.1)
+
+pub legal_from-joined : (before xs ys : List Entry) → IsLegalFrom before xs → IsLegalFrom (before ++ xs) ys → IsLegalFrom before (xs ++ ys)
+legal_from-joined before [] ys first rest = subst (λ b. IsLegalFrom b ys) (append-nil before) rest
+legal_from-joined before (x ∷ xs) ys first rest =
+    (first.0, legal_from-joined (before ++ x ∷ []) xs ys first.1 (subst (λ b. IsLegalFrom b ys) (sym (append_assoc before (x ∷ []) xs)) rest))
+
+-- every beginning of a legal history is legal
+pub legal-front : (xs ys : List Entry) → IsLegal (xs ++ ys) → IsLegal xs
+legal-front xs ys legal = (legal_from-split [] xs ys legal).0
+
+pub legal-next : (history : List Entry) (e : Entry) → IsLegal (history ++ e ∷ []) ↔ (IsLegal history × IsNext history e)
+legal-next history e =
+    (λ legal. ((legal_from-split [] history (e ∷ []) legal).0, (legal_from-split [] history (e ∷ []) legal).1.0),
+     λ both. legal_from-joined [] history (e ∷ []) both.0 (both.1, tt))
