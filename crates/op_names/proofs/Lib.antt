@@ -1,0 +1,10 @@
+pub mod Blocks
+pub mod Choices
+pub mod Digits
+pub mod IdTexts
+pub mod Naming
+pub mod Printing
+pub mod Reading
+pub mod Rooms
+pub mod SecretTexts
+pub mod Slashes
