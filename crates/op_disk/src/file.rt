@@ -176,7 +176,8 @@ mod tests {
         let mut found = [0; 4];
         assert!(rt; disk.read(1, &mut found).is_ok() && found == *b"ater");
         assert!(rt; disk.read(5, &mut found) == Err(DiskFault) && disk.faults == 1);
-        assert!(rt; *fs::read(&rt, "file_disk_test")? == *b"watert");
+        let kept = fs::read(&rt, "file_disk_test")?;
+        assert!(rt; kept.as_slice() == b"watert".as_slice());
         fs::remove_file(&rt, "file_disk_test")
     }
 }
