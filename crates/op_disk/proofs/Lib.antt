@@ -1,2 +1,3 @@
 mod Images
+pub mod Moments
 mod Replay
