@@ -9,6 +9,9 @@ ghost use Rattle.op_journal.specs.Frames.{Holds, SpellsUpTo, limit};
 use crate::LIMIT;
 use op_disk::{Disk, DiskFault};
 
+/// An open gate.
+const OPEN: [u8; 1] = [1];
+
 /// Why a commit was refused.
 #[derive(Clone, Copy, Debug, PartialEq, Eq)]
 pub enum CommitFault {
@@ -120,6 +123,7 @@ impl Journal {
     }
 }
 
+// Writes the frame behind the closed gate, and opens the gate once the frame is durable.
 fn write_frame<D: Disk>(disk: &mut D, tail: u64, body: &[u8]) -> Result<(), DiskFault>
     requires settled { IsTrue D.tells → IsSettled tail (D.seen disk.old) (D.images disk.old) }
     requires body { IsBody body.now }
@@ -137,7 +141,7 @@ fn write_frame<D: Disk>(disk: &mut D, tail: u64, body: &[u8]) -> Result<(), Disk
 {
     disk.write_at(tail + 1, body)?;
     disk.sync()?;
-    disk.write_at(tail, &[1])?;
+    disk.write_at(tail, &OPEN)?;
     disk.sync()?;
     Ok(())
 }

@@ -11,6 +11,8 @@
 
 mod commits;
 mod recovery;
+#[cfg(test)]
+mod tests;
 
 pub use commits::{CommitFault, Journal};
 pub use recovery::{JournalFault, Recovery};

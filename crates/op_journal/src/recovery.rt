@@ -1,5 +1,5 @@
 // Opening a journal on any disk, and reading its frames.
-ghost use Rattle.std.specs.Prelude.{◌≡◌, ◌≢◌, ◌⊎◌, ◌+◌, ◌<◌, ◌≤◌, ◌∷◌, ◌++◌, [], ℕ, List, length, take, drop, IsTrue, IfOk, IfErr, OnErr, IsErrOf, Ok, true, false};
+ghost use Rattle.std.specs.Prelude.{◌≡◌, ◌≢◌, ◌⊎◌, ◌+◌, ◌<◌, ◌≤◌, ◌∷◌, ◌++◌, [], ℕ, List, length, take, drop, IsTrue, IfOk, IfErr, OnErr, IsErrOf, Ok, true, false, nat_le, if◌then◌else◌};
 ghost use Rattle.std.specs.Int.{w32, to_be_bytes, from_be_bytes};
 ghost use Rattle.op_causes.specs.Causes.{Rose};
 ghost use Rattle.op_disk.specs.Calls.{LeavesOnly, NoMore, Only};
@@ -75,7 +75,8 @@ impl Recovery {
         ensures bad_header { IsErrOf result JournalFault.BadHeader → IsTrue D.tells → (9 < length (D.seen disk.old)) × (take 8 (D.seen disk.old) ≢ header) × (D.seen disk.new ≡ D.seen disk.old) × Only (D.seen disk.new) (D.images disk.new) }
         ensures any_moment { IsTrue D.tells → LeavesOnly D.moment D.since disk.old disk.new (IsOldOrShort (D.images disk.old) (D.seen disk.old)) }
         ensures synced { IsTrue D.tells → D.moment disk.old + 1 < D.moment disk.new → (c : List ℕ) → D.since disk.new (D.moment disk.old + 1) c → IsOldOrShort (λ d. d ≡ D.seen disk.old) (D.seen disk.old) c }
-        ensures calls { IfOk result (λ r. D.moment disk.old + 1 < D.moment disk.new) }
+        ensures calls { IfOk result (λ r. IsTrue D.tells → D.moment disk.new ≡ (if nat_le (length (D.seen disk.old)) 9 then D.moment disk.old + 4 else D.moment disk.old + 3)) }
+        ensures past_sync { IfOk result (λ r. D.moment disk.old + 1 < D.moment disk.new) }
         ensures cause { IfOk result (λ r. D.faults disk.new ≡ D.faults disk.old) }
         ensures fault { IsErrOf result JournalFault.DiskFault → Rose (D.faults disk.old) (D.faults disk.new) }
         ensures refusals { IfErr result (λ e. (e ≡ JournalFault.DiskFault) ⊎ (e ≡ JournalFault.BadHeader)) }

@@ -23,8 +23,7 @@ returns-in_err-commit-clause-each g c told closed payloads holds =
     let inv = c.loop-body.invariant in
     let all = payloads_of c.args.bodies.now in
     let more = one_body c.args.bodies.now i c.body-item.result c.deref.result.now payloads c.loop-body-test.true c.body-item.is c.deref.ensures.value in
-    let any = c.commit.ensures.any_moment told (inv.closed ∙ closed) (payloads ++ take i all) (inv.holds told payloads holds) in
-    (
+    let any = c.commit.ensures.any_moment told (inv.closed ∙ closed) (payloads ++ take i all) (inv.holds told payloads holds) in (
       i,
       omega (arith, c.loop-body-test.true),
       search rules,
