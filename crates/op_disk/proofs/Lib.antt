@@ -1,0 +1,3 @@
+mod Images
+pub mod Moments
+mod Replay
