@@ -1,10 +1,11 @@
 -- The date of a day has that day's number.
-use Rattle.std.proofs.Common.{true, false, Bool, ◌≡◌, ◌≤◌, ◌<◌, ◌+◌, ◌-◌, ◌*◌, ◌/◌, ◌%◌, ℕ, zero, suc, cond, pos, refl, min, arith, nat_le, List, [], ◌∷◌, ◌⊎◌, inl, inr}
-use Rattle.std.proofs.lemmas.Bool.{cases_lt}
+use Rattle.std.proofs.Common.{true, false, Bool, ◌≡◌, ◌≤◌, ◌<◌, ◌+◌, ◌-◌, ◌*◌, ◌/◌, ◌%◌, ℕ, zero, suc, cond, pos, refl, ap, min, arith, nat_le, List, [], ◌∷◌, ◌⊎◌, inl, inr}
+use Rattle.std.proofs.lemmas.Bool.{cases_lt, cases_order}
 use Rattle.std.proofs.lemmas.Bool.Decides.{nat_tests}
 use Rattle.jiff_core.specs.Calendar.{days_in_year}
 use Rattle.op_time.specs.Calendar.{month_length, days_before_year, days_before_month, Date, day_number, first_passing, year_of_day, month_of_day, date_of}
 use Rattle.op_time.proofs.Days.{days_before_year-suc, days_before_month-next, days_before_month-december, days_before_year_low, days_before_year_high}
+use Rattle.op_time.proofs.Months.{first_of_month, length_of_month, first_of_month-later}
 
 -- of three numbers in a row, the last at which f has come to n
 last_of_three : (f : ℕ → ℕ) (n g : ℕ) → f (g - 1) ≤ n → n < f (g + 2) → let y = first_passing (λ y. nat_le (f y) n) ((g + 1) ∷ g ∷ (g - 1) ∷ []) in (f y ≤ n) × (n < f (y + 1))
@@ -61,3 +62,30 @@ date_of_is n =
     let year = days_before_year-suc y in
     let months = last_of_twelve (days_before_month y) rest (omega arith) (omega (arith, days_before_month-december y)) in
     date_of-parts n y rest (month_of_day y rest) (omega (arith, begun.0)) months (days_before_month-any y (month_of_day y rest) months.2 months.3)
+
+-- a date with a number, by its month's number
+number_by_month : (n : ℕ) (a : Date) → IsDateOf n a → (k : ℕ) → k ≡ 12 * a.year + (a.month - 1) → (first_of_month k + (a.day - 1) ≡ n) × (a.day ≤ length_of_month k)
+number_by_month n a is k e =
+    let year : k / 12 ≡ a.year = omega arith in
+    let month : k % 12 + 1 ≡ a.month = omega arith in
+    (rw (year, month) is.number, rw (year, month) is.day_high)
+
+date_of_fields : (y m d year month day : ℕ) → y ≡ year → m ≡ month → d ≡ day → (let a : Date = record { year = y; month = m; day = d } in a) ≡ record { year = year; month = month; day = day }
+date_of_fields y m d year month day e f g = rw (e, f, g) refl
+
+-- one date has a number
+pub date_unique : (n : ℕ) (a b : Date) → IsDateOf n a → IsDateOf n b → a ≡ b
+date_unique n a b is also =
+    let k = 12 * a.year + (a.month - 1) in
+    let l = 12 * b.year + (b.month - 1) in
+    let here = number_by_month n a is k refl in
+    let there = number_by_month n b also l refl in
+    let same : k ≡ l = elim (cases_order k l) [
+      | inl e ↦ e
+      | inr (inl lt) ↦ absurd (omega (arith, first_of_month-later k l lt))
+      | inr (inr gt) ↦ absurd (omega (arith, first_of_month-later l k gt))
+    ] in
+    let year : a.year ≡ b.year = omega arith in
+    let month : a.month ≡ b.month = omega arith in
+    let first : first_of_month k ≡ first_of_month l = ap first_of_month same in
+    date_of_fields a.year a.month a.day b.year b.month b.day year month (omega arith)
