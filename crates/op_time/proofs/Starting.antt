@@ -2,9 +2,9 @@
 use Rattle.std.proofs.Common.{true, false, Bool, ◌≡◌, ◌≤◌, ◌<◌, ◌+◌, ◌-◌, ◌*◌, ◌/◌, ◌%◌, ◌^◌, ℕ, zero, suc, cond, refl, min, arith, rules, nat_le, ◌⊎◌, inl, inr, Some, None, Option, if◌then◌else◌}
 use Rattle.std.proofs.lemmas.Bool.{cases_lt, cases_order}
 use Rattle.std.proofs.lemmas.Bool.Decides.{nat_tests}
-use Rattle.op_time.specs.Calendar.{month_length, Date, day_number, date_of, epoch, day_milliseconds}
+use Rattle.op_time.specs.Calendar.{month_length, Date, day_number, date_of, months_later, epoch, day_milliseconds}
 use Rattle.op_time.specs.Interval.{Interval, IsInterval}
-use Rattle.op_time.specs.Starts.{date_of_moment, months_later, nominal_start, start_of, has_begun, StartsRise}
+use Rattle.op_time.specs.Starts.{date_of_moment, nominal_start, start_of, has_begun, StartsRise}
 use Rattle.op_time.specs.declared.TheConstants.{LAST}
 use Rattle.op_time.proofs.Days.{month_length_bounds}
 use Rattle.op_time.proofs.Dates.{IsDateOf, date_of_is}

@@ -1,7 +1,7 @@
 //! Days by number, from the first of January of the year 0.
 
-ghost use Rattle.std.specs.Prelude.{◌≡◌, ◌+◌, ◌≤◌, pos, ◌≤ℤ◌};
-ghost use Rattle.op_time.specs.Calendar.{day_number, date_of, epoch, plain};
+ghost use Rattle.std.specs.Prelude.{◌≡◌, ◌+◌, ◌<◌, ◌≤◌, pos, ◌≤ℤ◌, MatchOption};
+ghost use Rattle.op_time.specs.Calendar.{day_number, date_of, epoch, plain, day_of_month, months_later, past_last_day};
 
 use jiff_core::civil::Date;
 
@@ -32,4 +32,35 @@ pub fn date_of(day: u32) -> Date
         Ok(date) => date,
         Err(_) => unreachable!(),
     }
+}
+
+/// The months of the years 0 to 9999.
+const MONTHS: u32 = 120_000;
+
+/// The number of the same day some months later, or of the last day of a shorter month. `None`
+/// only where that day lies past the year 9999.
+pub fn months_later(date: Date, months: u128) -> Option<u64>
+    requires { pos 0 ≤ℤ date.year }
+    ensures { MatchOption result (past_last_day ≤ day_number (months_later (plain date) months))
+        (λ day. day ≡ day_number (months_later (plain date) months)) }
+{
+    if months >= u128::from(MONTHS) {
+        return None;
+    }
+    let month = 12 * u32::from(date.year.unsigned_abs()) + u32::from(date.month - 1) + months as u32;
+    if month >= MONTHS {
+        return None;
+    }
+    Some(day_in_month(month, date.day))
+}
+
+/// The number of a day in a month that is given by its number, 12 times the year plus the month
+/// less 1, or of that month's last day where it is shorter.
+fn day_in_month(month: u32, day: u8) -> u64
+    requires month { month < MONTHS }
+    requires day { 1 ≤ day }
+    ensures { result ≡ day_number (day_of_month month day) }
+{
+    let date = Date::constrain((month / 12) as i16, (month % 12 + 1) as u8, day);
+    day_number(date)
 }
