@@ -9,7 +9,7 @@ use Rattle.jiff_core.proofs.SignedLemmas.{signed_arith}
 use Rattle.jiff_core.proofs.MarchLemmas.{day_count-early}
 use Rattle.jiff_core.proofs.CalendarLemmas.{days_from_civil-day_count, day_count-next_year, day_count-next_month, day_count-day, day_count-lt_year}
 use Rattle.jiff_core.proofs.DateLemmas.{civil, epoch_day_range}
-use Rattle.op_time.specs.Calendar.{Date, month_length, days_before_year, days_before_month, day_number, date_of, epoch, plain}
+use Rattle.op_time.specs.Calendar.{Date, month_length, days_before_year, days_before_month, day_number, date_of, epoch, past_last_day, plain}
 use Rattle.op_time.proofs.Days.{days_before_year-suc, days_before_month-next}
 use Rattle.op_time.proofs.Dates.{IsDateOf, date_of_is, date_unique}
 
@@ -77,3 +77,7 @@ epoch_day_small date = small_day (epoch_day date) (epoch_day_range date)
 
 pub day_number_small : (date : CivilDate) → pos 0 ≤ℤ date.year → day_number (plain date) < 2 ^ 31
 day_number_small date h = omega (arith, signed_arith, epoch_day-day_number date h, epoch_day_range date)
+
+-- which is at most that of the last date
+pub day_number_bound : (date : CivilDate) → pos 0 ≤ℤ date.year → day_number (plain date) < past_last_day
+day_number_bound date h = omega (arith, signed_arith, epoch_day-day_number date h, epoch_day_range date)

@@ -66,13 +66,23 @@ last_begun_is i t (suc n) j low high =
       | inr not_yet ↦ rw not_yet (last_begun_is i t n j low not_yet)
     ]
 
+-- the first interval has begun at a moment that is not before the start
+pub first_has_begun : (i : Interval) (t : ℕ) → IsInterval i → i.start ≤ t → has_begun i 0 t ≡ true
+first_has_begun i t is h =
+    let low = is.start_is_moment in
+    let first = nominal_start-zero i in
+    has_begun-from i 0 t (omega arith)
+
+-- and an interval with so large a number never
+pub none_has_begun : (i : Interval) (t : ℕ) → IsInterval i → has_begun i (0 + 2 ^ 38) t ≡ false
+none_has_begun i t is =
+    let end = nominal_start-later i 0 (0 + 2 ^ 38) is.takes_time (omega arith) in
+    not_begun-from i (0 + 2 ^ 38) t (omega arith)
+
 -- where a moment is not before the start, the last interval that has begun is there
 last_of : (i : Interval) (t : ℕ) → IsInterval i → i.start ≤ t → IsLast i t (last_begun i t 38 0)
 last_of i t is h =
-    let low = is.start_is_moment in
-    let first = nominal_start-zero i in
-    let end = nominal_start-later i 0 (0 + 2 ^ 38) is.takes_time (omega arith) in
-    last_begun_is i t 38 0 (has_begun-from i 0 t (omega arith)) (not_begun-from i (0 + 2 ^ 38) t (omega arith))
+    last_begun_is i t 38 0 (first_has_begun i t is h) (none_has_begun i t is)
 
 -- a moment lies in the last interval that has begun, if that is counted
 in_last : (a b c : Bool) → a ≡ true → b ≡ false → (a && (if b then false else c)) ≡ c
@@ -83,7 +93,7 @@ of_in false b c h = absurd (false≢true h)
 of_in true true c h = absurd (false≢true h)
 of_in true false c h = (refl, refl, h)
 
-lies_in-last : (i : Interval) (t j : ℕ) → IsLast i t j → lies_in i t j ≡ is_counted i j
+pub lies_in-last : (i : Interval) (t j : ℕ) → IsLast i t j → lies_in i t j ≡ is_counted i j
 lies_in-last i t j last = in_last (has_begun i j t) (has_begun i (j + 1) t) (is_counted i j) last.0 last.1
 
 last-lies_in : (i : Interval) (t j : ℕ) → lies_in i t j ≡ true → IsLast i t j × (is_counted i j ≡ true)
@@ -107,14 +117,14 @@ true-early t start h = grind (arith, nat_tests)
 false-early : (t start : ℕ) → start ≤ t → nat_lt t start ≡ false
 false-early t start h = grind (arith, nat_tests)
 
-true-le : (start t : ℕ) → start ≤ t → nat_le start t ≡ true
+pub true-le : (start t : ℕ) → start ≤ t → nat_le start t ≡ true
 true-le start t h = grind (arith, nat_tests)
 
 le-true : (start t : ℕ) → nat_le start t ≡ true → start ≤ t
 le-true start t h = grind (arith, nat_tests)
 
 -- past the last counted interval a moment lies in none
-in_none : (i : Interval) (t j k : ℕ) → 0 < i.months + i.seconds → IsLast i t j → is_counted i j ≡ false → lies_in i t k ≡ false
+pub in_none : (i : Interval) (t j k : ℕ) → 0 < i.months + i.seconds → IsLast i t j → is_counted i j ≡ false → lies_in i t k ≡ false
 in_none i t j k takes_time last out =
     elim (cases_Bool (lies_in i t k)) [
       | inl inside ↦

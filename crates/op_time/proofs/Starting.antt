@@ -2,8 +2,9 @@
 use Rattle.std.proofs.Common.{true, false, Bool, ◌≡◌, ◌≤◌, ◌<◌, ◌+◌, ◌-◌, ◌*◌, ◌/◌, ◌%◌, ◌^◌, ℕ, zero, suc, cond, refl, min, arith, rules, nat_le, ◌⊎◌, inl, inr, Some, None, Option, if◌then◌else◌}
 use Rattle.std.proofs.lemmas.Bool.{cases_lt, cases_order}
 use Rattle.std.proofs.lemmas.Bool.Decides.{nat_tests}
-use Rattle.op_time.specs.Calendar.{month_length, Date, day_number, date_of, months_later, epoch, day_milliseconds}
+use Rattle.op_time.specs.Calendar.{month_length, Date, day_number, date_of, months_later, epoch, past_last_day, day_milliseconds}
 use Rattle.op_time.specs.Interval.{Interval, IsInterval}
+use Rattle.op_time.specs.Moments.{moment_or_none}
 use Rattle.op_time.specs.Starts.{date_of_moment, nominal_start, start_of, has_begun, StartsRise}
 use Rattle.op_time.specs.declared.TheConstants.{LAST}
 use Rattle.op_time.proofs.Days.{month_length_bounds}
@@ -25,7 +26,7 @@ months_later-zero n date is =
     rw (year, month) (omega arith)
 
 -- the day on which interval j starts, whatever its seconds
-abbrev day_of_start : Interval → ℕ → ℕ
+abbrev pub day_of_start : Interval → ℕ → ℕ
 day_of_start i j = day_number (months_later (date_of_moment i.start) (j * i.months))
 
 day_of_start-zero : (i : Interval) → day_of_start i 0 ≡ epoch + i.start / day_milliseconds
@@ -87,6 +88,9 @@ up_to-some n last h = grind (arith, nat_tests)
 up_to-is : (n last t : ℕ) → (if nat_le n last then Some n else None) ≡ Some t → (n ≤ last) × (n ≡ t)
 up_to-is n last t is = grind (arith, nat_tests)
 
+past-none : (n last : ℕ) → last < n → (if nat_le n last then Some n else None) ≡ None
+past-none n last h = grind (arith, nat_tests)
+
 pub start_of-some : (i : Interval) (j : ℕ) → nominal_start i j ≤ LAST → start_of i j ≡ Some (nominal_start i j)
 start_of-some i j h = up_to-some (nominal_start i j) LAST h
 
@@ -105,3 +109,19 @@ start_of-zero i is =
     let first = nominal_start-zero i in
     let low = is.start_is_moment in
     rw (start_of-some i 0 (omega arith), first)
+
+-- a start past the last moment
+pub start_of-none : (i : Interval) (j : ℕ) → LAST < nominal_start i j → start_of i j ≡ None
+start_of-none i j h = past-none (nominal_start i j) LAST h
+
+-- by the seconds alone
+pub nominal_start-by_seconds : (i : Interval) (j : ℕ) → LAST < j * i.seconds → LAST < nominal_start i j
+nominal_start-by_seconds i j h = omega arith
+
+-- or by the day alone
+pub nominal_start-by_day : (i : Interval) (j : ℕ) → past_last_day ≤ day_of_start i j → LAST < nominal_start i j
+nominal_start-by_day i j h = omega arith
+
+-- and where the day is known
+pub start_of-day : (i : Interval) (j day : ℕ) → day ≡ day_of_start i j → start_of i j ≡ moment_or_none ((day - epoch) * day_milliseconds + i.start % day_milliseconds + j * i.seconds * 1000)
+start_of-day i j day e = rw e refl

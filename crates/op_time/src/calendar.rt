@@ -17,7 +17,8 @@ pub const DAY: u64 = 86_400_000;
 /// The number of a date's day.
 pub fn day_number(date: Date) -> u64
     requires { pos 0 ≤ℤ date.year }
-    ensures { result ≡ day_number (plain date) }
+    ensures value { result ≡ day_number (plain date) }
+    ensures bound { result < past_last_day }
 {
     (date.to_unix_epoch_day() + EPOCH_DAY as i32) as u64
 }
@@ -42,7 +43,7 @@ const MONTHS: u32 = 120_000;
 pub fn months_later(date: Date, months: u128) -> Option<u64>
     requires { pos 0 ≤ℤ date.year }
     ensures { MatchOption result (past_last_day ≤ day_number (months_later (plain date) months))
-        (λ day. day ≡ day_number (months_later (plain date) months)) }
+        (λ day. (day ≡ day_number (months_later (plain date) months)) × (day < past_last_day)) }
 {
     if months >= u128::from(MONTHS) {
         return None;
@@ -59,7 +60,8 @@ pub fn months_later(date: Date, months: u128) -> Option<u64>
 fn day_in_month(month: u32, day: u8) -> u64
     requires month { month < MONTHS }
     requires day { 1 ≤ day }
-    ensures { result ≡ day_number (day_of_month month day) }
+    ensures value { result ≡ day_number (day_of_month month day) }
+    ensures bound { result < past_last_day }
 {
     let date = Date::constrain((month / 12) as i16, (month % 12 + 1) as u8, day);
     day_number(date)
