@@ -12,7 +12,7 @@ use Rattle.op_time.specs.Digits.{fits, fits_byte}
 pub fits_same_length : (p t : List ℕ) → length p ≡ length t → fits p t ≡ list_all (λ q. fits_byte q.0 q.1) (zip p t)
 fits_same_length p t e = grind (arith, nat_tests)
 
-and_true : (a b : Bool) → (a && b) ≡ true → (a ≡ true) × (b ≡ true)
+pub and_true : (a b : Bool) → (a && b) ≡ true → (a ≡ true) × (b ≡ true)
 and_true true b h = (refl, h)
 and_true false b h = absurd (false≢true h)
 
@@ -83,3 +83,11 @@ list_all_in_front p (x ∷ xs) =
         rw (passes, next) (both_true (p x) (list_all p (take (prefix_len p xs) xs)) passes (list_all_in_front p xs))
       | inr fails ↦ rw fails refl
     ]
+
+-- digits in front of three places, as thousandths
+pub three_places : (n k : ℕ) → k ≤ 3 → n < 10 ^ k → n * 10 ^ (3 - k) < 1000
+three_places n zero h small = omega arith
+three_places n (suc zero) h small = omega arith
+three_places n (suc (suc zero)) h small = omega arith
+three_places n (suc (suc (suc zero))) h small = omega arith
+three_places n (suc (suc (suc (suc k)))) h small = absurd (omega arith)

@@ -1,10 +1,10 @@
 -- Moments as texts: RFC 3339, section 5.6, in the profile of Open Payments.
-use Rattle.std.specs.Prelude.{ℕ, Bool, ◌+◌, ◌-◌, ◌*◌, ◌/◌, ◌%◌, ◌^◌, ◌==◌, ◌&&◌, ◌||◌, nat_le, if◌then◌else◌, List, [], ◌∷◌, ◌++◌, length, take, drop, codes, Some, None, Ok, Err, slice_index, ok_or, option_and_then}
+use Rattle.std.specs.Prelude.{ℕ, Bool, true, ◌+◌, ◌-◌, ◌*◌, ◌/◌, ◌%◌, ◌^◌, ◌==◌, ◌&&◌, ◌||◌, nat_le, if◌then◌else◌, List, [], ◌∷◌, ◌++◌, length, take, drop, codes, Some, None, Ok, Err, slice_index, ok_or, option_and_then}
 use Rattle.std.specs.declared.option.Option.{Option}
 use Rattle.std.specs.declared.result.Result.{Result}
 use Rattle.std.specs.Result.{result_ok}
 use Rattle.std.specs.Str.Parse.{digits_value}
-use Rattle.op_time.specs.Calendar.{Date, day_number, month_length, epoch, day_milliseconds}
+use Rattle.op_time.specs.Calendar.{Date, day_of_date, epoch, day_milliseconds}
 use Rattle.op_time.specs.Digits.{digits_of, number_at, fits}
 use Rattle.op_time.specs.Moments.{moment_or_none}
 use Rattle.op_time.specs.Starts.{date_of_moment}
@@ -27,7 +27,7 @@ zone_of text = if slice_index text 19 == 46 then drop (20 + length (fraction_of 
 abbrev pub is_fraction : List ℕ → Bool
 is_fraction text =
     if slice_index text 19 == 46 then nat_le 1 (length (fraction_of text)) && nat_le (length (fraction_of text)) 9
-    else (length (fraction_of text) == 0)
+    else true
 
 -- the zone is `Z`, or an offset
 abbrev pub is_zone : List ℕ → Bool
@@ -37,17 +37,10 @@ is_zone zone = fits (codes "Z") zone || fits (codes "sdd:dd") zone
 abbrev pub has_shape : List ℕ → Bool
 has_shape text = fits (codes "dddd-dd-ddTdd:dd:dd") (clock_of text) && (is_fraction text && is_zone (zone_of text))
 
--- the calendar has this date
-abbrev pub is_date : Date → Bool
-is_date date =
-    (nat_le 1 date.month && nat_le date.month 12)
-    && (nat_le 1 date.day && nat_le date.day (month_length date.year date.month))
-
--- the day's number
+-- the number of the day
 abbrev pub day_in : List ℕ → Option ℕ
 day_in clock =
-    let date : Date = record { year = number_at clock 0 4; month = number_at clock 5 2; day = number_at clock 8 2 } in
-    if is_date date then Some (day_number date) else None
+    day_of_date (record { year = number_at clock 0 4; month = number_at clock 5 2; day = number_at clock 8 2 })
 
 -- the seconds since midnight
 abbrev pub time_in : List ℕ → Option ℕ

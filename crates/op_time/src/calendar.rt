@@ -1,7 +1,7 @@
 //! Days by number, from the first of January of the year 0.
 
-ghost use Rattle.std.specs.Prelude.{◌≡◌, ◌+◌, ◌<◌, ◌≤◌, pos, ◌≤ℤ◌, MatchOption};
-ghost use Rattle.op_time.specs.Calendar.{day_number, date_of, epoch, plain, day_of_month, months_later, past_last_day};
+ghost use Rattle.std.specs.Prelude.{◌≡◌, ◌+◌, ◌<◌, ◌≤◌, pos, ◌≤ℤ◌, MatchOption, IfSome};
+ghost use Rattle.op_time.specs.Calendar.{day_number, date_of, epoch, plain, day_of_month, day_of_date, months_later, past_last_day};
 
 use jiff_core::civil::Date;
 
@@ -65,4 +65,16 @@ fn day_in_month(month: u32, day: u8) -> u64
 {
     let date = Date::constrain((month / 12) as i16, (month % 12 + 1) as u8, day);
     day_number(date)
+}
+
+/// The number of a date's day. `None` exactly where the calendar has no such date.
+pub fn day_of(year: u16, month: u8, day: u8) -> Option<u64>
+    requires { (year < 10000) × (month < 100) × (day < 100) }
+    ensures value { result ≡ day_of_date (record { year = year; month = month; day = day }) }
+    ensures bound { IfSome result (λ number. number < past_last_day) }
+{
+    match Date::new(year as i16, month as i8, day as i8) {
+        Ok(date) => Some(day_number(date)),
+        Err(_) => None,
+    }
 }
