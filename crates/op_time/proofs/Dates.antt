@@ -1,5 +1,5 @@
 -- The date of a day has that day's number.
-use Rattle.std.proofs.Common.{true, false, Bool, ◌≡◌, ◌≤◌, ◌<◌, ◌+◌, ◌-◌, ◌*◌, ◌/◌, ◌%◌, ℕ, zero, suc, cond, pos, refl, ap, min, arith, nat_le, List, [], ◌∷◌, ◌⊎◌, inl, inr}
+use Rattle.std.proofs.Common.{true, false, Bool, ◌≡◌, ◌≤◌, ◌<◌, ◌+◌, ◌-◌, ◌*◌, ◌/◌, ◌%◌, ℕ, zero, suc, cond, pos, refl, Some, None, if◌then◌else◌, ◌&&◌, ap, min, arith, nat_le, List, [], ◌∷◌, ◌⊎◌, inl, inr}
 use Rattle.std.proofs.lemmas.Bool.{cases_lt, cases_order}
 use Rattle.std.proofs.lemmas.Bool.Decides.{nat_tests}
 use Rattle.jiff_core.specs.Calendar.{days_in_year}
@@ -22,6 +22,13 @@ pub year_of_day_is : (n : ℕ) → (days_before_year (year_of_day n) ≤ n) × (
 year_of_day_is n =
     let g = n * 400 / 146097 in
     last_of_three days_before_year n g (omega (arith, days_before_year_high (g - 1))) (omega (arith, days_before_year_low (g + 2)))
+
+-- a day before the year 10000
+before_year : (y n : ℕ) → days_before_year y ≤ n → n < 3652425 → y < 10000
+before_year y n h last = omega (arith, days_before_year_low y)
+
+pub year_of_day_small : (n : ℕ) → n < 3652425 → year_of_day n < 10000
+year_of_day_small n last = before_year (year_of_day n) n (year_of_day_is n).0 last
 
 -- the same of the twelve months
 last_of_twelve : (f : ℕ → ℕ) (n : ℕ) → f 1 ≤ n → n < f 13 → let m = first_passing (λ m. nat_le (f m) n) (12 ∷ 11 ∷ 10 ∷ 9 ∷ 8 ∷ 7 ∷ 6 ∷ 5 ∷ 4 ∷ 3 ∷ 2 ∷ 1 ∷ []) in (f m ≤ n) × (n < f (m + 1)) × (1 ≤ m) × (m ≤ 12)
@@ -89,3 +96,7 @@ date_unique n a b is also =
     let month : a.month ≡ b.month = omega arith in
     let first : first_of_month k ≡ first_of_month l = ap first_of_month same in
     date_of_fields a.year a.month a.day b.year b.month b.day year month (omega arith)
+
+-- the tests of a date's parts, in plain variables
+pub some_by_tests : (m d length n : ℕ) → 1 ≤ m → m ≤ 12 → 1 ≤ d → d ≤ length → (if (nat_le 1 m && nat_le m 12) && (nat_le 1 d && nat_le d length) then Some n else None) ≡ Some n
+some_by_tests m d length n a b e f = grind (arith, nat_tests)

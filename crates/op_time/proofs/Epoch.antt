@@ -1,18 +1,18 @@
 -- The number of a day, against the day numbers of the calendar's crate, which are 0 for the first of January 1970.
-use Rattle.std.proofs.Common.{◌≡◌, ◌≤◌, ◌<◌, ◌+◌, ◌-◌, ◌*◌, ◌^◌, ℕ, zero, suc, ℤ, pos, negsuc, ◌+ℤ◌, ◌<ℤ◌, ◌≤ℤ◌, unsigned_abs, subst, refl, sym, ap, ◌∙◌, Some, None, nat_le, if◌then◌else◌, ◌&&◌, arith}
+use Rattle.std.proofs.Common.{◌≡◌, ◌≤◌, ◌<◌, ◌+◌, ◌-◌, ◌*◌, ◌^◌, ℕ, zero, suc, ℤ, pos, negsuc, ◌+ℤ◌, ◌<ℤ◌, ◌≤ℤ◌, unsigned_abs, to_z, of_z, w16, subst, refl, sym, ap, ◌∙◌, Some, None, nat_le, if◌then◌else◌, ◌&&◌, arith}
 use Rattle.std.proofs.lemmas.Int.{by_lt_z}
 use Rattle.std.proofs.lemmas.Bool.Decides.{nat_tests}
 use borrow.Author.Differences.{up, down}
-use Rattle.jiff_core.specs.Calendar.{day_count, days_from_civil, days_in_month, IsCivilDate, IsEpochDay}
+use Rattle.jiff_core.specs.Calendar.{day_count, days_from_civil, days_in_month, IsCivilDate, IsEpochDay, IsYear}
 use Rattle.jiff_core.specs.Date.{epoch_day}
 use Rattle.jiff_core.specs.declared.civil.date.Date.{Date as CivilDate}
-use Rattle.jiff_core.proofs.SignedLemmas.{signed_arith}
+use Rattle.jiff_core.proofs.SignedLemmas.{signed_arith, back_small}
 use Rattle.jiff_core.proofs.MarchLemmas.{day_count-early}
 use Rattle.jiff_core.proofs.CalendarLemmas.{days_from_civil-day_count, day_count-next_year, day_count-next_month, day_count-day, day_count-lt_year}
 use Rattle.jiff_core.proofs.DateLemmas.{civil, epoch_day_range}
 use Rattle.op_time.specs.Calendar.{Date, month_length, days_before_year, days_before_month, day_number, date_of, epoch, past_last_day, plain, day_of_date}
 use Rattle.op_time.proofs.Days.{days_before_year-suc, days_before_month-next}
-use Rattle.op_time.proofs.Dates.{IsDateOf, date_of_is, date_unique}
+use Rattle.op_time.proofs.Dates.{IsDateOf, date_of_is, date_unique, some_by_tests}
 
 -- the days from the year -10000 to the year 0
 day_count-year_zero : day_count (pos 0) 1 1 ≡ 3652425
@@ -83,9 +83,6 @@ day_number_small date h = omega (arith, signed_arith, epoch_day-day_number date 
 pub day_number_bound : (date : CivilDate) → pos 0 ≤ℤ date.year → day_number (plain date) < past_last_day
 day_number_bound date h = omega (arith, signed_arith, epoch_day-day_number date h, epoch_day_range date)
 
-some_by_tests : (m d length n : ℕ) → 1 ≤ m → m ≤ 12 → 1 ≤ d → d ≤ length → (if (nat_le 1 m && nat_le m 12) && (nat_le 1 d && nat_le d length) then Some n else None) ≡ Some n
-some_by_tests m d length n a b e f = grind (arith, nat_tests)
-
 -- a date of the calendar's crate is one
 pub day_of_date-civil : (date : CivilDate) (y m d : ℕ) → date.year ≡ pos y → pos date.month ≡ pos m → pos date.day ≡ pos d → Some (day_number (plain date)) ≡ day_of_date (record { year = y; month = m; day = d })
 day_of_date-civil date y m d year month day =
@@ -95,3 +92,11 @@ day_of_date-civil date y m d year month day =
     let is_year : unsigned_abs date.year ≡ y = ap unsigned_abs year in
     let within = subst DayWithin (year ∙ ap pos (sym is_year)) date.day_in.1 in
     rw (← is_year, ← is_month, ← is_day) (sym (some_by_tests date.month date.day (month_length (unsigned_abs date.year) date.month) (day_number (plain date)) date.month_in.0 date.month_in.1 date.day_in.0 within))
+
+-- a year fits its type
+small_year : (z : ℤ) → IsYear z → unsigned_abs z < 2 ^ 15
+small_year (pos n) h = omega (arith, signed_arith)
+small_year (negsuc n) h = omega (arith, signed_arith)
+
+pub year_comes_back : (date : CivilDate) → to_z w16 (of_z w16 date.year) ≡ date.year
+year_comes_back date = back_small w16 date.year (small_year date.year date.year_in)
