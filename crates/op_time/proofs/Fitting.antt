@@ -58,8 +58,8 @@ fits_digits p t at count fit digits =
     at_digits p t at count parts.1 digits (fits_length p t fit)
 
 -- powers of ten stay small
-pub ten_to : (i : ℕ) → i ≤ 17 → 10 ^ i ≤ 10 ^ 17
-ten_to i h = pow-le-pow_right (omega arith) h
+pub ten_to : (i k : ℕ) → i ≤ k → 10 ^ i ≤ 10 ^ k
+ten_to i k h = pow-le-pow_right (omega arith) h
 
 pub ten_to-next : (i : ℕ) → 10 ^ (i + 1) ≡ 10 ^ i * 10
 ten_to-next i = rw (add-one, pow-suc) refl

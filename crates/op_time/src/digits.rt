@@ -65,3 +65,10 @@ fn digit_count(text: &[u8]) -> usize
 {
     text.iter().take_while(|b| b.is_ascii_digit()).count()
 }
+
+/// Whether each byte is a digit.
+pub fn all_digits(text: &[u8]) -> bool
+    ensures { result ≡ list_all is_ascii_digit text.now }
+{
+    text.iter().all(|b| b.is_ascii_digit())
+}
