@@ -24,8 +24,6 @@ fits_length p t h =
     let same = (and_true (length p == length t) _ h).0 in
     grind (arith, nat_tests)
 
-
-
 abbrev is_digits : List ℕ → Bool
 is_digits p = list_all (λ b. b == 100) p
 
@@ -79,8 +77,8 @@ list_all_in_front p [] = refl
 list_all_in_front p (x ∷ xs) =
     elim (cases_Bool (p x)) [
       | inl passes ↦
-        let next : 1 + prefix_len p xs ≡ suc (prefix_len p xs) = omega arith in
-        rw (passes, next) (both_true (p x) (list_all p (take (prefix_len p xs) xs)) passes (list_all_in_front p xs))
+          let next : 1 + prefix_len p xs ≡ suc (prefix_len p xs) = omega arith in
+          rw (passes, next) (both_true (p x) (list_all p (take (prefix_len p xs) xs)) passes (list_all_in_front p xs))
       | inr fails ↦ rw fails refl
     ]
 

@@ -128,9 +128,9 @@ pub in_none : (i : Interval) (t j k : ℕ) → 0 < i.months + i.seconds → IsLa
 in_none i t j k takes_time last out =
     elim (cases_Bool (lies_in i t k)) [
       | inl inside ↦
-        let there = last-lies_in i t k inside in
-        let same : k ≡ j = last_is_one i t k j takes_time there.0 last in
-        absurd (false≢true (sym out ∙ (ap (is_counted i) (sym same) ∙ there.1)))
+          let there = last-lies_in i t k inside in
+          let same : k ≡ j = last_is_one i t k j takes_time there.0 last in
+          absurd (false≢true (sym out ∙ (ap (is_counted i) (sym same) ∙ there.1)))
       | inr outside ↦ outside
     ]
 

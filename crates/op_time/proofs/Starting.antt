@@ -54,7 +54,7 @@ day_of_start-low i (suc j) =
     elim (cases_lt 0 i.months) [
       | inl some ↦ rw next (omega (arith, day_of_start-low i j, day_of_start-next i j some))
       | inr none ↦ let zero_months : i.months ≡ 0 = omega arith in
-        rw next (omega (arith, day_of_start-low i j, day_of_start-stays i j zero_months))
+          rw next (omega (arith, day_of_start-low i j, day_of_start-stays i j zero_months))
     ]
 
 pub nominal_start-zero : (i : Interval) → nominal_start i 0 ≡ i.start
@@ -67,7 +67,7 @@ nominal_start-next i j takes_time =
     elim (cases_lt 0 i.months) [
       | inl some ↦ omega (arith, day_of_start-low i j, day_of_start-next i j some)
       | inr none ↦ let zero_months : i.months ≡ 0 = omega arith in
-        omega (arith, day_of_start-low i j, day_of_start-stays i j zero_months)
+          omega (arith, day_of_start-low i j, day_of_start-stays i j zero_months)
     ]
 
 nominal_start-after : (i : Interval) (j n : ℕ) → 0 < i.months + i.seconds → nominal_start i j + 1000 * n ≤ nominal_start i (j + n)

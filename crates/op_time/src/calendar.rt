@@ -48,7 +48,9 @@ pub fn months_later(date: Date, months: u128) -> Option<u64>
     if months >= u128::from(MONTHS) {
         return None;
     }
-    let month = 12 * u32::from(date.year.unsigned_abs()) + u32::from(date.month - 1) + months as u32;
+    let month = 12 * u32::from(date.year.unsigned_abs())
+        + u32::from(date.month - 1)
+        + months as u32;
     if month >= MONTHS {
         return None;
     }

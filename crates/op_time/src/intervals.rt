@@ -67,11 +67,7 @@ fn has_parts(text: &[u8]) -> bool
         && head_of(text).starts_with(b"R")
 }
 
-fn interval_of_parts(
-    count: &[u8],
-    start: &[u8],
-    duration: &[u8],
-) -> Result<Interval, IntervalFault>
+fn interval_of_parts(count: &[u8], start: &[u8], duration: &[u8]) -> Result<Interval, IntervalFault>
     ensures { result ≡ interval_of_parts count.now start.now duration.now }
 {
     let Ok(start) = moment_in(start) else {

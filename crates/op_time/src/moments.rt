@@ -6,9 +6,9 @@ ghost use Rattle.std.specs.List.{list_all};
 ghost use Rattle.op_time.specs.Digits.{fits};
 ghost use Rattle.op_time.specs.MomentTexts.{moment_of, moment_text, digit, moment_in, moment_with, moment_at, has_shape, clock_of, fraction_of, zone_of, is_fraction, is_zone, day_in, time_in, offset_in, milliseconds_of, in_utc};
 
+use crate::Moment;
 use crate::calendar::{self, DAY, EPOCH_DAY};
 use crate::digits::{digits_of, fits, number, number_at};
-use crate::Moment;
 
 /// A date and a time of day.
 const CLOCK: &[u8; 19] = b"dddd-dd-ddTdd:dd:dd";
