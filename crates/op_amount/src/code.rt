@@ -29,9 +29,12 @@ impl Model for AssetCode {
 
     ghost view = { λ a. take a.len a.kept };
 
-    ghost invariant = { λ a. (length a.kept ≡ 8) × (a.len ≤ 8) × (a.kept ≡ take a.len a.kept ++ replicate (8 - a.len) 0) × IsTrue (is_asset_code (take a.len a.kept)) };
+    ghost invariant = { λ a. (length a.kept ≡ 8) × (a.len ≤ 8)
+        × (a.kept ≡ take a.len a.kept ++ replicate (8 - a.len) 0)
+        × IsTrue (is_asset_code (take a.len a.kept)) };
 
-    ghost inverse = { λ xs. record { kept = xs ++ replicate (8 - length xs) 0; len = length xs } };
+    ghost inverse = { λ xs.
+        record { kept = xs ++ replicate (8 - length xs) 0; len = length xs } };
 }
 
 impl AssetCode {

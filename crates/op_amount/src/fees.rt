@@ -10,7 +10,8 @@ pub trait FeeTerms {
 
     ghost allows: { Pair → ℕ → ℕ → Type 0 };
 
-    ghost at_most: { (pair : Pair) (amount fee : ℕ) → amount ≤ TOP → allows pair amount fee → fee ≤ amount };
+    ghost at_most: { (pair : Pair) (amount fee : ℕ)
+        → amount ≤ TOP → allows pair amount fee → fee ≤ amount };
 }
 
 /// The shipped rule: the amount divided by 100, rounded up.

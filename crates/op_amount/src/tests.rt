@@ -18,7 +18,7 @@ fn values(rt: HostRuntime) {
 }
 
 #[test]
-fn rates_round_towards_the_payer(rt: HostRuntime) {
+fn rates_and_their_limits(rt: HostRuntime) {
     assert_eq!(rt; least_source(101, 3, 2), Some(68));
     assert_eq!(rt; floor_mul(68, 3, 2), Some(102));
     assert_eq!(rt; floor_mul(67, 3, 2), Some(100));

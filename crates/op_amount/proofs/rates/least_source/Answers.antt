@@ -1,4 +1,4 @@
-use Rattle.std.proofs.Common.{◌≡◌, ◌<◌, ◌*◌, arith}
+use Rattle.std.proofs.Common.{◌<◌, ◌*◌, arith}
 use Rattle.op_amount.proofs.Ceilings.{div_ceil_is}
 use Rattle.op_amount.proofs.rates.least_source.Goals as goal
 

@@ -1,7 +1,6 @@
-use Rattle.std.proofs.Common.{true, ◌≡◌, ◌≤◌, ◌<◌, ◌^◌, length, arith}
+use Rattle.std.proofs.Common.{true, ◌≡◌, ◌<◌, length, arith}
 use Rattle.std.specs.Char.{is_ascii_digit}
 use Rattle.std.specs.List.{list_all}
-use Rattle.std.specs.Str.Parse.{digits_value}
 use Rattle.std.proofs.lemmas.Bool.Decides.{nat_tests}
 use Rattle.op_amount.proofs.Numerals.{parse_fails}
 use Rattle.op_amount.proofs.value.read_value.Goals as goal

@@ -1,4 +1,3 @@
-use Rattle.std.proofs.Common.{◌≡◌}
 use Rattle.op_amount.proofs.CodeText.{code_is_text}
 use Rattle.op_amount.proofs.code.AssetCode.as_str.Goals as goal
 
