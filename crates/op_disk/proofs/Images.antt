@@ -1,7 +1,7 @@
 -- The disk model byte by byte and the same a write at a time are one.
-use Rattle.std.proofs.Common.{◌≡◌, ◌⊎◌, inl, inr, ⊎_elim, ℕ, ◌+◌, ◌-◌, ◌≤◌, ◌<◌, min, max, Bool, true, false, List, [], ◌∷◌, ◌++◌, length, take, drop, get_or, refl, sym, ◌∙◌, ap, subst, arith, append_assoc, length-append, length-drop, length-take, nat_le, nat_lt, ◌&&◌, ◌||◌}
+use Rattle.std.proofs.Common.{◌≡◌, ◌⊎◌, inl, inr, ⊎_elim, ℕ, ◌+◌, ◌-◌, ◌≤◌, ◌<◌, min, max, Bool, true, false, List, [], ◌∷◌, ◌++◌, length, take, drop, get_or, refl, sym, ◌∙◌, ap, subst, arith, length-append, length-drop, length-take, nat_le, nat_lt, ◌&&◌, ◌||◌}
 use Rattle.std.proofs.lemmas.Bool.{cases_lt, cases_Bool}
-use Rattle.std.proofs.lemmas.List.{take_at, drop_at, take_all, drop_all, ext_get_or, get_or-take, get_or-drop, length-take-le, get_or-append_right, get_or_append_left}
+use Rattle.std.proofs.lemmas.List.{take_all, ext_get_or, get_or-take, get_or-drop, length-take-le, get_or-append_right, get_or_append_left}
 use Rattle.op_disk.specs.Calls.{Torn, overlaid}
 use Rattle.op_disk.specs.Crash.{Range, is_written, greatest_end, MayLeave, MayReach}
 

@@ -1,8 +1,7 @@
 -- What a call more does to the images of a disk in memory.
-use Rattle.std.proofs.Common.{◌≡◌, ◌⊎◌, inl, inr, ℕ, ◌+◌, ◌≤◌, ◌<◌, Bool, true, false, List, [], ◌∷◌, ◌++◌, length, take, get_or, reverse, refl, sym, ◌∙◌, ap, subst, Vec, Global}
+use Rattle.std.proofs.Common.{◌≡◌, ◌⊎◌, inl, inr, ℕ, ◌+◌, ◌≤◌, ◌<◌, Bool, true, false, List, [], ◌∷◌, ◌++◌, length, take, get_or, sym, ◌∙◌, ap, subst, Vec, Global}
 use Rattle.std.proofs.lemmas.List.{reverse-append, take_more}
 use Rattle.op_disk.specs.Calls.{Torn, Follows, Only, overlaid}
-use Rattle.op_disk.specs.Crash.{MayLeave}
 use Rattle.op_disk.specs.Memory.{contents, synced, written, IsImage, newest}
 use Rattle.op_disk.specs.declared.memory.Call.{Call}
 use Rattle.op_disk.specs.declared.memory.Call.TheVariants.{Write, Sync}

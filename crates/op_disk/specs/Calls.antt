@@ -1,5 +1,5 @@
 -- What a disk's calls owe: what they do to its bytes, its images and its clock.
-use Rattle.std.specs.Prelude.{◌<◌, ◌≡◌, ◌⊎◌, ◌-◌, ℕ, ◌+◌, ◌≤◌, min, max, List, ◌++◌, length, take, drop, Result, OnOk}
+use Rattle.std.specs.Prelude.{◌≡◌, ◌⊎◌, ℕ, ◌+◌, ◌≤◌, min, max, List, ◌++◌, length, take, drop, Result, OnOk}
 
 -- the bytes with these in place of those from a place on
 abbrev pub overlaid : List ℕ → ℕ → List ℕ → List ℕ

@@ -1,5 +1,5 @@
 -- A disk in memory, by its record of calls, of which the newest comes first.
-use Rattle.std.specs.Prelude.{ℕ, ◌+◌, ◌≤◌, ◌≡◌, ◌⊎◌, List, [], ◌∷◌, length, reverse, Bool, true, false, if◌then◌else◌}
+use Rattle.std.specs.Prelude.{ℕ, ◌+◌, ◌≤◌, ◌≡◌, ◌⊎◌, List, [], ◌∷◌, length, reverse, if◌then◌else◌}
 use Rattle.std.proofs.Common.{inl, inr, sym, arith}
 use Rattle.std.proofs.lemmas.List.{length-reverse}
 use Rattle.op_disk.specs.Calls.{overlaid}

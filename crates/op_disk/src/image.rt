@@ -169,3 +169,31 @@ fn written_end_by(call: &Call, end: u64) -> u64
         Call::Sync { .. } | Call::Length { .. } | Call::Read { .. } => end,
     }
 }
+
+#[cfg(test)]
+mod tests {
+    use super::*;
+    use crate::Disk;
+
+    // What stands, and what a crash may leave, by the disk model and by hand.
+    #[test]
+    fn a_sync_that_fails_leaves_the_written_range_free(rt: HostRuntime) -> Result<(), AllocError> {
+        let alloc = rt.alloc();
+        let mut disk = MemoryDisk::new(alloc, b"abc".to_vec(alloc)?, [1].to_vec(alloc)?)?;
+        assert!(rt; disk.write_at(1, b"XYZ").is_ok() && disk.sync().is_err());
+        assert!(rt; disk.contents() == b"aXYZ".as_slice() && disk.faults() == 1);
+        let torn = (
+            disk.image(b"zz")?,
+            disk.image(b"azcd")?,
+            disk.image(b"zzzzz")?,
+        );
+        assert!(rt;
+            torn.0.as_slice() == b"azc".as_slice() && torn.1.as_slice() == b"azcd".as_slice()
+        );
+        assert!(rt; torn.2.as_slice() == b"azzz".as_slice());
+        assert!(rt; disk.sync().is_ok() && disk.calls().len() == 3);
+        let kept = disk.image(b"zzzzz")?;
+        assert!(rt; kept.as_slice() == b"aXYZ".as_slice());
+        Ok(())
+    }
+}

@@ -1,7 +1,8 @@
 // A disk in memory. It keeps a record of its calls, and its images are those that the record allows.
-ghost use Rattle.std.specs.Prelude.{◌≡◌, ◌⊎◌, ◌+◌, ◌≤◌, ◌∷◌, ◌++◌, [], true, false, length, if◌then◌else◌, vec_len, vec_capacity, OnOk, OnErr, IfOk};
+ghost use Rattle.std.specs.Prelude.{◌≡◌, ◌⊎◌, ◌+◌, ◌≤◌, ◌∷◌, ◌++◌, [], true, false, length, if◌then◌else◌, vec_len, vec_capacity, OnOk, OnErr, IfOk, ◌==◌, take, drop};
+ghost use Rattle.std.specs.List.{list_any};
 ghost use Rattle.op_causes.specs.Causes.{HasCause};
-ghost use Rattle.op_disk.specs.Calls.{overlaid};
+ghost use Rattle.op_disk.specs.Calls.{overlaid, Torn, Follows, NoMore, Only, Ticks, Elapses};
 ghost use Rattle.op_disk.specs.Memory.{contents, IsImage, Since, newest, counts_now, only_now};
 
 use crate::{Disk, DiskFault};
@@ -81,12 +82,16 @@ impl MemoryDisk {
         })
     }
 
-    fn next_fails(&self) -> bool {
+    fn next_fails(&self) -> bool
+        ensures { result ≡ list_any (λ number. number == length self.now.calls.items) self.now.fails.items }
+    {
         self.fails.contains(&(self.calls.len() as u64))
     }
 }
 
 impl Disk for MemoryDisk {
+    ghost use Rattle.op_disk.specs.MemoryView.{contents_of, images_of, since_of, FailsAsTold};
+
     ghost tells = { true };
 
     ghost seen = { λ m. contents m.first.items (newest m.calls.items) };
@@ -105,7 +110,16 @@ impl Disk for MemoryDisk {
 
     ghost only_now = { λ m c left. only_now m.first.items m.calls.items c left };
 
-    fn length(&mut self) -> Result<u64, DiskFault> {
+    fn length(&mut self) -> Result<u64, DiskFault>
+        ensures value { IfOk result (λ n. n ≡ length (contents_of self.old)) }
+        ensures seen { contents_of self.new ≡ contents_of self.old }
+        ensures crash { NoMore (images_of self.old) (images_of self.new) }
+        ensures clock { Ticks (length self.old.calls.items) (length self.new.calls.items) result }
+        ensures time { Elapses (length self.old.calls.items) (length self.new.calls.items) (since_of self.old) (since_of self.new) (images_of self.new) }
+        ensures cause { HasCause self.old.faults self.new.faults result }
+        ensures fails { FailsAsTold self.old self.new result }
+        ensures recorded { OnOk result (self.new.calls.items ≡ self.old.calls.items ++ Call.Length false ∷ []) }
+    {
         let failed = self.next_fails();
         record(
             &mut self.calls,
@@ -116,7 +130,17 @@ impl Disk for MemoryDisk {
         Ok(self.bytes.len() as u64)
     }
 
-    fn read(&mut self, at: u64, into: &mut [u8]) -> Result<(), DiskFault> {
+    fn read(&mut self, at: u64, into: &mut [u8]) -> Result<(), DiskFault>
+        requires { at + length into.old ≤ length (contents_of self.old) }
+        ensures bytes { OnOk result (into.new ≡ take (length into.old) (drop at (contents_of self.old))) }
+        ensures seen { contents_of self.new ≡ contents_of self.old }
+        ensures crash { NoMore (images_of self.old) (images_of self.new) }
+        ensures clock { Ticks (length self.old.calls.items) (length self.new.calls.items) result }
+        ensures time { Elapses (length self.old.calls.items) (length self.new.calls.items) (since_of self.old) (since_of self.new) (images_of self.new) }
+        ensures cause { HasCause self.old.faults self.new.faults result }
+        ensures fails { FailsAsTold self.old self.new result }
+        ensures recorded { OnOk result (self.new.calls.items ≡ self.old.calls.items ++ Call.Read at (length into.old) false ∷ []) }
+    {
         let failed = self.next_fails();
         let length = into.len() as u64;
         record(
@@ -130,7 +154,16 @@ impl Disk for MemoryDisk {
         Ok(())
     }
 
-    fn write_at(&mut self, at: u64, from: &[u8]) -> Result<(), DiskFault> {
+    fn write_at(&mut self, at: u64, from: &[u8]) -> Result<(), DiskFault>
+        requires { at ≤ length (contents_of self.old) }
+        ensures written { OnOk result (contents_of self.new ≡ overlaid (contents_of self.old) at from.now) }
+        ensures crash { Follows (Torn at (length from.now)) (images_of self.old) (images_of self.new) }
+        ensures clock { Ticks (length self.old.calls.items) (length self.new.calls.items) result }
+        ensures time { Elapses (length self.old.calls.items) (length self.new.calls.items) (since_of self.old) (since_of self.new) (images_of self.new) }
+        ensures cause { HasCause self.old.faults self.new.faults result }
+        ensures fails { FailsAsTold self.old self.new result }
+        ensures recorded { OnOk result ((bytes : _) × (bytes.items ≡ from.now) × (self.new.calls.items ≡ self.old.calls.items ++ Call.Write at bytes false ∷ [])) }
+    {
         let failed = self.next_fails();
         let written = record_write(
             self.alloc,
@@ -147,7 +180,16 @@ impl Disk for MemoryDisk {
         Ok(())
     }
 
-    fn sync(&mut self) -> Result<(), DiskFault> {
+    fn sync(&mut self) -> Result<(), DiskFault>
+        ensures durable { OnOk result (Only (contents_of self.new) (images_of self.new)) }
+        ensures seen { OnOk result (contents_of self.new ≡ contents_of self.old) }
+        ensures crash { NoMore (images_of self.old) (images_of self.new) }
+        ensures clock { Ticks (length self.old.calls.items) (length self.new.calls.items) result }
+        ensures time { Elapses (length self.old.calls.items) (length self.new.calls.items) (since_of self.old) (since_of self.new) (images_of self.new) }
+        ensures cause { HasCause self.old.faults self.new.faults result }
+        ensures fails { FailsAsTold self.old self.new result }
+        ensures recorded { OnOk result (self.new.calls.items ≡ self.old.calls.items ++ Call.Sync false ∷ []) }
+    {
         let failed = self.next_fails();
         record(
             &mut self.calls,

@@ -1,4 +1,4 @@
-use Rattle.std.proofs.Common.{◌≡◌, ◌≤◌, ◌<◌, ◌^◌, length, arith, rules}
+use Rattle.std.proofs.Common.{◌≡◌, ◌<◌, ◌^◌, length, arith, rules}
 use Rattle.op_disk.proofs.Images.{wanted_made}
 use Rattle.op_disk.specs.Memory.{written, newest}
 use Rattle.op_disk.proofs.image.crash_image.Goals as goal
