@@ -1,12 +1,11 @@
 -- Hexadecimal digits: their number, their values, and their letters.
-use Rattle.std.proofs.Common.{◌≡◌, ℕ, zero, suc, ◌+◌, ◌-◌, ◌*◌, ◌/◌, ◌%◌, ◌^◌, ◌<◌, ◌≤◌, List, [], ◌∷◌, ◌++◌, length, map, take, drop, replicate, get_or, codes, refl, sym, ap, ◌∙◌, subst, arith, length-append, length-drop, zero-add}
+use Rattle.std.proofs.Common.{◌≡◌, ℕ, zero, suc, ◌+◌, ◌-◌, ◌*◌, ◌/◌, ◌%◌, ◌^◌, ◌<◌, ◌≤◌, List, [], ◌∷◌, ◌++◌, length, map, take, drop, replicate, get_or, refl, sym, ap, ◌∙◌, arith, length-drop, zero-add}
 use Rattle.std.specs.Char.{to_ascii_lowercase, digit_value}
 use Rattle.std.specs.Int.{to_be_bytes, bytes_high_first, byte_at, w64}
-use Rattle.std.specs.List.{range_with_len}
 use Rattle.std.specs.Str.{str_to_ascii_lowercase}
-use Rattle.std.specs.Str.Parse.{digits_value, digits_value_after}
+use Rattle.std.specs.Str.Parse.{digits_value_after}
 use Rattle.std.proofs.Math.ListN as lists
-use Rattle.std.proofs.lemmas.List.{take-append-drop, take-replicate, length-replicate, append-nil}
+use Rattle.std.proofs.lemmas.List.{take-append-drop}
 use Rattle.std.proofs.lemmas.List.FromFn.{get_or-range_with_len}
 use Rattle.hex.specs.Hex.{encode_with, encode_lower, lower_digits, IsBytes}
 use Rattle.hex.proofs.HexLemmas.{length-encode_with}

@@ -1,9 +1,9 @@
 -- The text of a secret, and what is read of it.
-use Rattle.std.proofs.Common.{◌≡◌, ◌≢◌, ℕ, suc, ◌+◌, ◌-◌, ◌*◌, ◌^◌, ◌<◌, ◌≤◌, List, [], ◌∷◌, ◌++◌, length, take, drop, get_or, ◌==◌, Option, Some, None, IfSome, Ok, if◌then◌else◌, refl, sym, ap, ◌∙◌, arith, append_assoc, length-append, length-drop}
+use Rattle.std.proofs.Common.{◌≡◌, ℕ, ◌-◌, ◌^◌, ◌<◌, ◌≤◌, List, [], ◌∷◌, ◌++◌, length, take, drop, get_or, ◌==◌, Option, Some, None, IfSome, if◌then◌else◌, refl, sym, ap, ◌∙◌, arith, append_assoc, length-append, length-drop}
 use Rattle.std.specs.Fmt.{decimal}
 use Rattle.std.proofs.lemmas.Fmt.{decimal_nonempty, decimal_injective}
-use Rattle.hex.specs.Hex.{encode_lower, lower_digits, decode_sized, decode_of}
-use Rattle.hex.proofs.HexLemmas.{length-encode_with, decode_sized-encode_lower, decode_of-same, decode_of-encode_lower}
+use Rattle.hex.specs.Hex.{encode_lower, lower_digits, decode_of}
+use Rattle.hex.proofs.HexLemmas.{length-encode_with, decode_of-same, decode_of-encode_lower}
 use Rattle.op_names.specs.Secrets.{secret_text, letter_byte, IsDrawn, ReadsSecret}
 use Rattle.op_names.specs.declared.Letter.TheVariants.{Access, Continuation, Nonce, Interaction}
 use Rattle.op_names.specs.declared.Letter.{Letter}

@@ -1,8 +1,7 @@
-use Rattle.std.proofs.Common.{◌≡◌, ◌<◌, ◌^◌, ℕ, Some, None, unwrap_or, true, true≢false, sym, ap, ◌∙◌, refl, arith}
+use Rattle.std.proofs.Common.{◌≡◌, Some, unwrap_or, true, true≢false, sym, ap, ◌∙◌, refl, arith}
 use Rattle.std.specs.Str.{bytes_eq}
 use Rattle.std.proofs.lemmas.Slice.Eq.{bytes_eq-Decides}
-use Rattle.op_names.specs.Ids.{kind_number, kind_in, id_text}
-use Rattle.op_names.specs.declared.Id.{Id}
+use Rattle.op_names.specs.Ids.{kind_number, kind_in}
 use Rattle.op_names.proofs.IdTexts.{kind_digits, number_digits, kind_small, kind_in-kind_number}
 use Rattle.op_names.proofs.ids.id_of_lower.Goals as goal
 use Rattle.op_names.proofs.ids.id_of_lower.Goals.{else-number-via-then-number+else-eq, else-number-via-else-number}

@@ -1,10 +1,10 @@
-use Rattle.std.proofs.Common.{◌≡◌, ◌<◌, ◌^◌, ℕ, List, length, Some, None, Ok, sym, ap, ◌∙◌, refl, arith}
+use Rattle.std.proofs.Common.{◌≡◌, ℕ, List, Some, Ok, ap, ◌∙◌, refl}
 use Rattle.std.specs.Int.{to_be_bytes, from_be_bytes, w64}
 use Rattle.std.specs.Result.{result_ok}
 use Rattle.std.proofs.lemmas.Nat.{from_be_bytes-to_be_bytes_8}
 use Rattle.hex.specs.Hex.{encode_lower, decode_sized}
 use Rattle.hex.proofs.HexLemmas.{decode_sized-encode_lower}
-use Rattle.op_names.proofs.Digits.{IsBytes-to_be_bytes, lowercase-encode_lower}
+use Rattle.op_names.proofs.Digits.{IsBytes-to_be_bytes}
 use Rattle.op_names.proofs.ids.number_of.Goals as goal
 
 decodes : (digits : List ℕ) (number : ℕ) → digits ≡ encode_lower (to_be_bytes w64 number) → decode_sized digits 8 ≡ Ok (to_be_bytes w64 number)

@@ -1,4 +1,4 @@
-use Rattle.std.proofs.Common.{◌≡◌, ℕ, List, Some, None, true, true≢false, ap, ◌∙◌, sym, arith}
+use Rattle.std.proofs.Common.{◌≡◌, true, true≢false, ◌∙◌, sym, arith}
 use Rattle.std.specs.Str.{bytes_eq}
 use Rattle.op_names.proofs.Choices.{same_bytes}
 use Rattle.op_names.proofs.SecretTexts.{word_part, place_part, secret_is_long, first_part}
