@@ -1,5 +1,5 @@
 -- The key's block and its masks.
-use Rattle.std.proofs.Common.{◌≡◌, ℕ, ◌<◌, ◌≤◌, List, ◌++◌, length, drop, replicate, set, inl, inr, ◌+◌, ◌*◌, ◌%◌, ◌^◌, get_or, bit_xor, nat_lt, false, arith, refl, sym, ◌∙◌}
+use Rattle.std.proofs.Common.{◌≡◌, ℕ, ◌<◌, ◌≤◌, List, ◌++◌, length, drop, replicate, set, inl, inr, ◌+◌, get_or, bit_xor, nat_lt, false, arith, refl, sym, ◌∙◌}
 use Rattle.std.proofs.lemmas.List.{drop-replicate, get_or-map, length-map, get_or-set_same, get_or-set_other}
 use Rattle.std.proofs.lemmas.Grind.{same_number_lists}
 use Rattle.std.proofs.lemmas.Bool.{cases_lt}

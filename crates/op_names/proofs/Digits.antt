@@ -1,15 +1,17 @@
 -- Hexadecimal digits: their number, their values, and their letters.
-use Rattle.std.proofs.Common.{◌≡◌, ℕ, zero, suc, ◌+◌, ◌-◌, ◌*◌, ◌/◌, ◌%◌, ◌^◌, ◌<◌, ◌≤◌, List, [], ◌∷◌, ◌++◌, length, map, take, drop, replicate, get_or, codes, refl, sym, ap, ◌∙◌, subst, arith, length-append, length-drop, zero-add}
+use Rattle.std.proofs.Common.{◌≡◌, Some, ℕ, zero, suc, ◌+◌, ◌-◌, ◌*◌, ◌/◌, ◌%◌, ◌^◌, ◌<◌, ◌≤◌, List, [], ◌∷◌, ◌++◌, length, map, take, drop, replicate, get_or, refl, sym, ap, ◌∙◌, arith, length-drop, zero-add}
 use Rattle.std.specs.Char.{to_ascii_lowercase, digit_value}
-use Rattle.std.specs.Int.{to_be_bytes, bytes_high_first, byte_at, w64}
-use Rattle.std.specs.List.{range_with_len}
+use Rattle.std.specs.Option.{option_map}
+use Rattle.std.specs.Result.{result_ok}
+use Rattle.std.proofs.lemmas.Nat.{from_be_bytes-to_be_bytes_8}
+use Rattle.std.specs.Int.{to_be_bytes, from_be_bytes, bytes_high_first, byte_at, w64}
 use Rattle.std.specs.Str.{str_to_ascii_lowercase}
-use Rattle.std.specs.Str.Parse.{digits_value, digits_value_after}
+use Rattle.std.specs.Str.Parse.{digits_value_after}
 use Rattle.std.proofs.Math.ListN as lists
-use Rattle.std.proofs.lemmas.List.{take-append-drop, take-replicate, length-replicate, append-nil}
+use Rattle.std.proofs.lemmas.List.{take-append-drop}
 use Rattle.std.proofs.lemmas.List.FromFn.{get_or-range_with_len}
-use Rattle.hex.specs.Hex.{encode_with, encode_lower, lower_digits, IsBytes}
-use Rattle.hex.proofs.HexLemmas.{length-encode_with}
+use Rattle.hex.specs.Hex.{decode_sized, encode_with, encode_lower, lower_digits, IsBytes}
+use Rattle.hex.proofs.HexLemmas.{length-encode_with, decode_sized-encode_lower}
 use Rattle.op_names.specs.Ids.{hex_of}
 
 -- ---- the bytes of a number
@@ -87,3 +89,12 @@ filled_8 number h =
     let third : number / 1099511627776 % 256 ≡ 0 = omega arith in
     let fourth : number / 4294967296 % 256 ≡ 0 = omega arith in
     filled_up (encode_lower (to_be_bytes w64 number)) (replicate 8 48) 8 (rw (first, second, third, fourth) refl)
+
+-- the number of sixteen digits that a number has
+pub decoded_number : (digits : List ℕ) (number : ℕ) → number < 2 ^ 64 → digits ≡ encode_lower (to_be_bytes w64 number)
+    → option_map (from_be_bytes w64) (result_ok (decode_sized digits 8)) ≡ Some number
+decoded_number digits number small is =
+    let bytes = to_be_bytes w64 number in
+    ap (λ d. option_map (from_be_bytes w64) (result_ok (decode_sized d 8))) is
+    ∙ ap (λ r. option_map (from_be_bytes w64) (result_ok r)) (decode_sized-encode_lower bytes 8 refl (IsBytes-to_be_bytes number))
+    ∙ ap Some (from_be_bytes-to_be_bytes_8 number small)

@@ -1,7 +1,7 @@
 -- The text of an identifier, and what is read of it.
-use Rattle.std.proofs.Common.{◌≡◌, ℕ, zero, suc, ◌+◌, ◌-◌, ◌*◌, ◌^◌, ◌<◌, ◌≤◌, Bool, true, false, List, [], ◌∷◌, ◌++◌, length, map, take, drop, replicate, codes, Option, Some, None, IfSome, option_and_then, refl, sym, ap, ◌∙◌, subst, lit<, lit≤, arith, append_assoc, length-append, length-take, length-drop, rules, tests}
+use Rattle.std.proofs.Common.{◌≡◌, ℕ, ◌-◌, ◌^◌, ◌<◌, ◌≤◌, true, List, ◌++◌, length, map, take, drop, replicate, codes, Option, Some, None, IfSome, refl, sym, ap, ◌∙◌, lit<, lit≤, arith, append_assoc, length-append, rules, tests}
 use Rattle.std.specs.Char.{to_ascii_lowercase}
-use Rattle.std.specs.Int.{to_be_bytes, from_be_bytes, w64}
+use Rattle.std.specs.Int.{to_be_bytes, w64}
 use Rattle.std.specs.Str.{bytes_eq, str_to_ascii_lowercase}
 use Rattle.std.specs.Str.Parse.{digits_value}
 use Rattle.std.proofs.lemmas.List.{append-nil, length-map, map-append, drop-map}

@@ -1,13 +1,12 @@
 -- What the texts of addresses and rows name.
-use Rattle.std.proofs.Common.{◌≡◌, ◌+◌, ◌<◌, ◌≤◌, ◌==◌, ℕ, List, [], ◌∷◌, ◌++◌, Bool, true, false, length, take, drop, get_or, codes, Option, Some, None, Result, refl, sym, ap, ◌∙◌, subst, arith, zero-add, rules, tests}
+use Rattle.std.proofs.Common.{◌≡◌, ◌+◌, ◌<◌, ◌≤◌, ◌==◌, ℕ, List, [], ◌∷◌, false, length, take, drop, get_or, Option, Some, None, Result, refl, ap, ◌∙◌, subst, arith, rules, tests}
 use Rattle.std.specs.List.{slice_get, position_or_len}
 use Rattle.std.specs.Str.{IsUtf8}
 use Rattle.std.proofs.lemmas.Str.{lead_after_ascii}
 use Rattle.op_names.specs.Forms.{is_slash, is_origin, scheme_length, origin_length}
-use Rattle.op_names.specs.Names.{text_if, address_at, address_in, address_in_url, address_in_pointer, portless_at, pointer_origin, pointer_path, row_at, row_id, row_in}
+use Rattle.op_names.specs.Names.{text_if, address_at, address_in, address_in_url, address_in_pointer, portless_at, pointer_origin, pointer_path, row_id, row_in}
 use Rattle.op_names.specs.Readers.{Reads}
 use Rattle.op_names.specs.declared.AddressName.{AddressName}
-use Rattle.op_names.specs.declared.RowName.{RowName}
 use Rattle.op_names.specs.declared.Kind.{Kind}
 use Rattle.op_names.specs.declared.Id.{Id}
 use Rattle.op_names.specs.declared.NameFault.{NameFault}

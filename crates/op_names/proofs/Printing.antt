@@ -1,18 +1,15 @@
 -- What is printed of addresses and rows is read again.
-use Rattle.std.proofs.Common.{◌≡◌, ◌⊎◌, ◌+◌, ◌<◌, ◌≤◌, ◌==◌, ℕ, List, [], ◌∷◌, ◌++◌, Bool, true, false, not, ◌&&◌, cond, nat_eq, length, take, drop, codes, Option, Some, None, refl, sym, ap, ◌∙◌, arith, append_assoc, subst, inl, inr, eqb, eqb-true, eq-eqb, nat_le, option_and_then}
-use Rattle.std.specs.List.{slice_get, position_or_len, prefix_len, starts_with}
+use Rattle.std.proofs.Common.{◌≡◌, ◌⊎◌, ◌+◌, ◌==◌, ℕ, List, [], ◌∷◌, ◌++◌, Bool, true, false, not, ◌&&◌, cond, nat_eq, length, take, drop, codes, Some, refl, sym, ap, ◌∙◌, arith, append_assoc, subst, inl, inr, eqb, eqb-true, eq-eqb, nat_le, option_and_then}
+use Rattle.std.specs.List.{slice_get, position_or_len, starts_with}
 use Rattle.std.proofs.lemmas.List.Folds.{prefix_len-append}
-use Rattle.op_names.specs.Forms.{is_slash, is_origin, is_web, is_word, is_path, prints_back, are_segments, origin_length}
-use Rattle.op_names.specs.Ids.{id_in, id_text, kind_number, has_id_number}
-use Rattle.op_names.specs.Names.{address_at, address_in, address_in_url, row_at, row_id, row_in, row_folder, id_behind, of_kind, row_url}
-use Rattle.op_names.specs.declared.AddressName.{AddressName}
-use Rattle.op_names.specs.declared.RowName.{RowName}
+use Rattle.op_names.specs.Forms.{is_slash, is_origin, is_web, is_word, is_path, are_segments, origin_length}
+use Rattle.op_names.specs.Ids.{id_in, id_text, kind_number}
+use Rattle.op_names.specs.Names.{address_at, address_in, row_at, row_id, row_in, row_folder, id_behind, of_kind}
 use Rattle.op_names.specs.declared.Kind.{Kind}
 use Rattle.op_names.specs.declared.Kind.TheVariants.{Incoming, Quote, Outgoing, Grant, Event, Address}
 use Rattle.op_names.specs.declared.Id.{Id}
 use Rattle.op_names.proofs.Choices.{both, either, picked, front_of, begins_with}
 use Rattle.op_names.proofs.Naming.{url_named}
-use Rattle.op_names.proofs.Reading.{a_row}
 use Rattle.op_names.proofs.Rooms.{take_front, drop_front}
 
 -- ---- where an origin ends

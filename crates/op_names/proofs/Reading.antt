@@ -1,5 +1,5 @@
 -- What readers answer.
-use Rattle.std.proofs.Common.{◌≡◌, ℕ, List, Bool, true, false, ◌&&◌, Option, Some, None, Result, Ok, Err, if◌then◌else◌, refl, sym, ap, ◌∙◌}
+use Rattle.std.proofs.Common.{◌≡◌, ℕ, List, Bool, true, false, ◌&&◌, Option, Some, None, Result, Ok, Err, if◌then◌else◌, refl}
 use Rattle.std.specs.Result.{IsErrAnd}
 use Rattle.op_names.specs.Forms.{is_origin, is_path}
 use Rattle.op_names.specs.Names.{text_if, address_at, row_at}

@@ -1,10 +1,11 @@
 -- The text of a secret, and what is read of it.
-use Rattle.std.proofs.Common.{◌≡◌, ◌≢◌, ℕ, suc, ◌+◌, ◌-◌, ◌*◌, ◌^◌, ◌<◌, ◌≤◌, List, [], ◌∷◌, ◌++◌, length, take, drop, get_or, ◌==◌, Option, Some, None, IfSome, Ok, if◌then◌else◌, refl, sym, ap, ◌∙◌, arith, append_assoc, length-append, length-drop}
+use Rattle.std.proofs.Common.{◌≡◌, ℕ, ◌-◌, ◌^◌, ◌<◌, ◌≤◌, List, [], ◌∷◌, ◌++◌, length, take, drop, get_or, Option, Some, None, IfSome, refl, sym, ap, ◌∙◌, arith, append_assoc, length-append, length-drop}
 use Rattle.std.specs.Fmt.{decimal}
+use Rattle.std.specs.Result.{result_ok}
 use Rattle.std.proofs.lemmas.Fmt.{decimal_nonempty, decimal_injective}
-use Rattle.hex.specs.Hex.{encode_lower, lower_digits, decode_sized, decode_of}
-use Rattle.hex.proofs.HexLemmas.{length-encode_with, decode_sized-encode_lower, decode_of-same, decode_of-encode_lower}
-use Rattle.op_names.specs.Secrets.{secret_text, letter_byte, IsDrawn, ReadsSecret}
+use Rattle.hex.specs.Hex.{decode_sized, encode_lower, lower_digits, decode_of}
+use Rattle.hex.proofs.HexLemmas.{decode_sized-encode_lower, length-encode_with, decode_of-same, decode_of-encode_lower}
+use Rattle.op_names.specs.Secrets.{letter_in, secret_text, letter_byte, IsDrawn, ReadsSecret}
 use Rattle.op_names.specs.declared.Letter.TheVariants.{Access, Continuation, Nonce, Interaction}
 use Rattle.op_names.specs.declared.Letter.{Letter}
 use Rattle.op_names.proofs.Rooms.{take_all, take_front, drop_front}
@@ -51,12 +52,7 @@ pub same_place : (text : List ℕ) (letter other : Letter) (word drawn : List �
 same_place text letter other word drawn place elsewhere w d small low is also =
     decimal_injective place elsewhere small low (sym (place_part text letter word place w is) ∙ place_part text other drawn elsewhere d also)
 
-abbrev letter_in : ℕ → Option Letter
-letter_in byte =
-    if byte == 97 then Some Access
-    else (if byte == 99 then Some Continuation else (if byte == 110 then Some Nonce else Some Interaction))
-
-letter_in-letter_byte : (letter : Letter) → letter_in (letter_byte letter) ≡ Some letter
+pub letter_in-letter_byte : (letter : Letter) → letter_in (letter_byte letter) ≡ Some letter
 letter_in-letter_byte Access = refl
 letter_in-letter_byte Continuation = refl
 letter_in-letter_byte Nonce = refl
@@ -81,3 +77,7 @@ read_back letter word place (Some secret) drawn small known h =
     let b = same_word text letter secret.0 word secret.1 place secret.2 drawn known.0 refl h in
     let d = same_place text letter secret.0 word secret.1 place secret.2 drawn known.0 small known.1 refl h in
     rw (a, b, d) refl
+
+-- the word of digits that a secret has
+pub decoded_word : (digits word : List ℕ) → IsDrawn word → digits ≡ encode_lower word → result_ok (decode_sized digits 16) ≡ Some word
+decoded_word digits word drawn is = ap (λ d. result_ok (decode_sized d 16)) is ∙ ap result_ok (decode_sized-encode_lower word 16 drawn.0 drawn.1)

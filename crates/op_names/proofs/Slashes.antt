@@ -1,12 +1,12 @@
 -- The first slash of a text.
-use Rattle.std.proofs.Common.{◌≡◌, ◌+◌, ◌<◌, ◌≤◌, ℕ, List, length, take, drop, ◌-◌, [], ◌∷◌, ◌++◌, ◌==◌, get_or, not, true, false, sym, ap, ◌∙◌, arith, length-append, length-drop, rules, tests}
+use Rattle.std.proofs.Common.{◌≡◌, ◌+◌, ◌<◌, ◌≤◌, ℕ, List, length, take, drop, ◌-◌, [], ◌∷◌, ◌++◌, ◌==◌, get_or, not, true, sym, ap, ◌∙◌, arith, length-append, length-drop, rules, tests}
 use Rattle.std.specs.Str.{bytes_eq}
 use Rattle.std.proofs.Math.Seq.{get_or-append_seam}
 use Rattle.std.proofs.lemmas.Bool.Decides.{same_from_decides, Decides-eqb}
 use Rattle.std.proofs.lemmas.Slice.Eq.{bytes_eq-Decides}
 use Rattle.std.specs.List.{position_or_len}
 use Rattle.std.proofs.lemmas.List.{get_or-drop, append_cancel_right}
-use Rattle.std.proofs.lemmas.List.Sums.{passes_at_first, position_or_len_is, prefix_len-le-length}
+use Rattle.std.proofs.lemmas.List.Sums.{passes_at_first, prefix_len-le-length}
 use Rattle.op_names.specs.Forms.{is_slash}
 use Rattle.op_names.proofs.Rooms.{take_all}
 

@@ -36,7 +36,7 @@ pointer_origin host = codes "https://" ++ host
 abbrev pub portless_at : List ℕ → List ℕ → Option AddressName
 portless_at origin path = if names_no_port (parse_url None origin) then address_at origin path else None
 
--- a payment pointer behind its `$` (Payment Pointers, sections 2 and 3)
+-- a payment pointer behind its `$` (Payment Pointers, syntax and resolution)
 abbrev pub address_in_pointer : List ℕ → Option AddressName
 address_in_pointer text =
     portless_at (pointer_origin (take (position_or_len is_slash text) text)) (pointer_path (drop (position_or_len is_slash text) text))

@@ -1,9 +1,11 @@
 //! Identifiers as texts.
 
 ghost use Rattle.std.specs.Prelude.{◌≡◌, ◌<◌, ◌^◌, ◌-◌, ◌++◌, ◌==◌, ℕ, length, replicate, Some, None, IfSome, if◌then◌else◌};
-ghost use Rattle.std.specs.Int.{to_be_bytes, w64};
+ghost use Rattle.std.specs.Int.{to_be_bytes, from_be_bytes, w64};
+ghost use Rattle.std.specs.Option.{option_map};
+ghost use Rattle.std.specs.Result.{result_ok};
 ghost use Rattle.std.specs.Str.{str_to_ascii_lowercase};
-ghost use Rattle.hex.specs.Hex.{encode_lower};
+ghost use Rattle.hex.specs.Hex.{encode_lower, decode_sized};
 ghost use Rattle.op_names.specs.Ids.{kind_number, kind_in, id_text, id_in};
 ghost use Rattle.op_names.specs.declared.Id.{Id};
 
@@ -52,7 +54,7 @@ fn digits_of(number: u64) -> [u8; 16]
 
 /// The number of sixteen digits.
 fn number_of(digits: &[u8; 16]) -> Option<u64>
-    ensures { (number : ℕ) → number < 2 ^ 64 → digits.now ≡ encode_lower (to_be_bytes w64 number) → result ≡ Some number }
+    ensures { result ≡ option_map (from_be_bytes w64) (result_ok (decode_sized digits.now 8)) }
 {
     let bytes = <[u8; 8]>::from_hex(digits).ok()?;
     Some(u64::from_be_bytes(bytes))

@@ -2,9 +2,9 @@
 
 ghost use Rattle.std.specs.Prelude.{◌≡◌, ◌<◌, ◌^◌, ℕ, List, Some, length};
 ghost use Rattle.std.specs.Fmt.{decimal};
-ghost use Rattle.hex.specs.Hex.{encode_lower, IsBytes};
-ghost use Rattle.op_names.specs.Secrets.{letter_byte, secret_text, ReadsSecret};
-ghost use Rattle.op_names.specs.declared.Letter.{Letter};
+ghost use Rattle.std.specs.Result.{result_ok};
+ghost use Rattle.hex.specs.Hex.{encode_lower, decode_sized};
+ghost use Rattle.op_names.specs.Secrets.{letter_byte, letter_in, secret_text, ReadsSecret};
 
 use crate::room::InPlace;
 use crate::{Letter, SecretText};
@@ -24,7 +24,7 @@ impl Letter {
     }
 
     fn of_byte(byte: u8) -> Option<Letter>
-        ensures { (letter : Letter) → byte ≡ letter_byte letter → result ≡ Some letter }
+        ensures { result ≡ letter_in byte }
     {
         match byte {
             b'a' => Some(Letter::Access),
@@ -46,9 +46,9 @@ fn word_digits(word: &[u8; 16]) -> [u8; 32]
     digits
 }
 
-/// The word of 32 digits.
+/// The word of 32 digits, in either case.
 fn read_word(digits: &[u8]) -> Option<[u8; 16]>
-    ensures { (word : List ℕ) → length word ≡ 16 → IsBytes word → digits.now ≡ encode_lower word → result ≡ Some word }
+    ensures { result ≡ result_ok (decode_sized digits.now 16) }
 {
     <[u8; 16]>::from_hex(digits).ok()
 }

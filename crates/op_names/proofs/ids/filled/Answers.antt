@@ -1,4 +1,4 @@
-use Rattle.std.proofs.Common.{◌≡◌, ℕ, ◌-◌, ◌≤◌, List, ◌++◌, length, replicate, ◌∙◌, arith}
+use Rattle.std.proofs.Common.{arith}
 use Rattle.op_names.proofs.Rooms.{filled_front}
 use Rattle.op_names.proofs.ids.filled.Goals as goal
 

@@ -1,9 +1,8 @@
-use Rattle.std.proofs.Common.{◌≡◌, ℕ, ◌-◌, ◌≤◌, List, ◌++◌, take, drop, length, codes, sym, ap, ◌∙◌, lit≤, refl}
+use Rattle.std.proofs.Common.{◌≡◌, ℕ, ◌-◌, ◌≤◌, List, ◌++◌, take, drop, codes, ap, ◌∙◌, lit≤, refl}
 use Rattle.std.specs.Int.{to_be_bytes, w64}
 use Rattle.hex.specs.Hex.{encode_lower}
-use borrow.Rule.Slice.PartMut.{put_mid}
 use Rattle.op_names.proofs.IdTexts.{last_digits, written}
-use Rattle.op_names.specs.Ids.{hex_of, id_text, kind_number}
+use Rattle.op_names.specs.Ids.{hex_of, kind_number}
 use Rattle.op_names.proofs.ids.id_text.Goals as goal
 
 copied : (width number : ℕ) (digits part : List ℕ) (n : ℕ) → n ≡ number → digits ≡ encode_lower (to_be_bytes w64 n)

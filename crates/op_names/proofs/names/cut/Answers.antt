@@ -1,6 +1,4 @@
-use Rattle.std.proofs.Common.{◌≡◌, ◌+◌, ◌<◌, ◌≤◌, ℕ, List, length, drop, get_or, length-drop, arith}
-use Rattle.std.specs.List.{position_or_len}
-use Rattle.op_names.specs.Forms.{is_slash}
+use Rattle.std.proofs.Common.{arith}
 use Rattle.op_names.proofs.Slashes.{slash_is_boundary, slash_behind}
 use Rattle.op_names.proofs.names.cut.Goals as goal
 

@@ -1,4 +1,4 @@
-use Rattle.std.proofs.Common.{◌≡◌, ◌++◌, ◌+◌, ℕ, List, codes, take, drop, sym, ap, ◌∙◌, zero-add}
+use Rattle.std.proofs.Common.{take, drop, ap, ◌∙◌, zero-add}
 use Rattle.std.specs.List.{position_or_len}
 use Rattle.op_names.specs.Forms.{is_slash}
 use Rattle.op_names.specs.Names.{pointer_origin, pointer_path}

@@ -1,4 +1,4 @@
-use Rattle.std.proofs.Common.{◌≡◌, ℕ, List, [], ◌∷◌, ◌++◌, true, false, sym, ap, ◌∙◌}
+use Rattle.std.proofs.Common.{◌∙◌}
 use Rattle.op_names.proofs.Slashes.{slashed_front, not_slashed}
 use Rattle.op_names.proofs.readers.is_slashed.Goals as goal
 

@@ -1,7 +1,8 @@
-use Rattle.std.proofs.Common.{◌≡◌, ℕ, List, Some, None, true, true≢false, ap, ◌∙◌, sym, arith}
+use Rattle.std.proofs.Common.{◌≡◌, ap, true, true≢false, ◌∙◌, sym, arith}
 use Rattle.std.specs.Str.{bytes_eq}
 use Rattle.op_names.proofs.Choices.{same_bytes}
-use Rattle.op_names.proofs.SecretTexts.{word_part, place_part, secret_is_long, first_part}
+use Rattle.op_names.specs.Secrets.{letter_in}
+use Rattle.op_names.proofs.SecretTexts.{decoded_word, letter_in-letter_byte, word_part, place_part, secret_is_long, first_part}
 use Rattle.op_names.proofs.secrets.read_secret.Goals as goal
 
 pub returns-then-text-lt35 : goal.returns-then-text-lt35
@@ -10,7 +11,7 @@ returns-then-text-lt35 c letter word place drawn small is =
 
 pub returns-in_err-word : goal.returns-in_err-word
 returns-in_err-word c = rw c.from_residual-in_err-word.ensures (λ letter word place drawn small is.
-    let none = c.in_err-word.ensures word drawn.0 drawn.1 (word_part c.args.text.now letter word place drawn is) in
+    let none = c.in_err-word.ensures ∙ decoded_word _ word drawn (word_part c.args.text.now letter word place drawn is) in
     cc none)
 
 pub returns-in_err-number : goal.returns-in_err-number
@@ -20,8 +21,8 @@ returns-in_err-number c = rw c.from_residual-in_err-number.ensures (λ letter wo
 
 pub returns-else-eq : goal.returns-else-eq
 returns-else-eq c letter word place drawn small is =
-    let some_letter = c.in_ok-letter.ensures letter (first_part c.args.text.now letter word place is) in
-    let some_word = c.in_ok-word.ensures word drawn.0 drawn.1 (word_part c.args.text.now letter word place drawn is) in
+    let some_letter = c.in_ok-letter.ensures ∙ ap letter_in (first_part c.args.text.now letter word place is) ∙ letter_in-letter_byte letter in
+    let some_word = c.in_ok-word.ensures ∙ decoded_word _ word drawn (word_part c.args.text.now letter word place drawn is) in
     let some_place = c.in_ok-number.ensures place small (place_part c.args.text.now letter word place drawn is) in
     let same_letter : c.in_ok-letter.letter ≡ letter = cc some_letter in
     let same_word : c.in_ok-word.word ≡ word = cc some_word in

@@ -1,5 +1,4 @@
 use Rattle.std.proofs.Common.{◌≡◌, ◌+◌, ◌-◌, ◌≤◌, ◌++◌, ℕ, List, length, take, replicate, sym, ap, ◌∙◌, arith, length-take}
-use borrow.Rule.Slice.PartMut.{put_mid}
 use Rattle.op_names.proofs.Rooms.{filled, length-filled, length-room, take_front}
 use Rattle.op_names.proofs.room.InPlace.append.Goals as goal
 
