@@ -14,7 +14,7 @@ use Rattle.op_names.specs.Interaction.{interaction_hash}
 use Rattle.op_names.specs.declared.Id.{Id}
 use Rattle.op_names.specs.declared.Kind.{Kind}
 use Rattle.op_names.specs.declared.Kind.TheVariants as kinds
-use Rattle.op_time.specs.Texts.{moment_text}
+use Rattle.op_time.specs.MomentTexts.{moment_text}
 use Rattle.op_model.specs.History.{last}
 use Rattle.op_model.specs.Metadata.{printed_object}
 use Rattle.op_model.specs.declared.row.PaymentState.{PaymentState}
