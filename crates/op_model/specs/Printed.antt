@@ -1,7 +1,8 @@
 -- Replies as bytes: one case for each form that is built.
-use Rattle.std.specs.Prelude.{ℕ, Bool, List, [], ◌++◌, length, codes, Some, None, option_map, unwrap_or}
+use Rattle.std.specs.Prelude.{ℕ, Bool, List, [], ◌++◌, length, codes, if◌then◌else◌, Some, None, option_map, unwrap_or}
 use Rattle.std.specs.Option.{is_some}
 use Rattle.std.specs.Fmt.{decimal}
+use Rattle.std.specs.Str.{is_utf8}
 use Rattle.std.specs.declared.option.Option.{Option}
 use Rattle.op_amount.specs.declared.Asset.{Asset}
 use Rattle.op_model.specs.declared.reply.Reply.{Reply}
@@ -28,19 +29,25 @@ coded code more = member (codes "code") (string code) more
 abbrev pub refused : (status code : List ℕ) → Said
 refused status code = record { status = status; body = error_body (coded code no_members) }
 
-abbrev pub refused_at : (status code : List ℕ) → ℕ → Said
-refused_at status code at =
-    record { status = status; body = error_body (member (codes "at") (number (unsigned at)) (coded code no_members)) }
+abbrev pub at_then : ℕ → Members → Members
+at_then at more = member (codes "at") (number (unsigned at)) more
 
-abbrev pub refused_name : (status code name : List ℕ) → Said
+abbrev pub refused_at : (status code : List ℕ) → ℕ → Said
+refused_at status code at = record { status = status; body = error_body (at_then at (coded code no_members)) }
+
+abbrev pub named : List ℕ → Members
+named name = member (codes "name") (string name) no_members
+
+-- a name that is no UTF-8 is no JSON text (RFC 8259, section 8.1), and has no printed form
+abbrev pub refused_name : (status code name : List ℕ) → Option Said
 refused_name status code name =
-    record { status = status; body = error_body (coded code (member (codes "name") (string name) no_members)) }
+    if is_utf8 name then Some (record { status = status; body = error_body (coded code (named name)) }) else None
 
 -- status codes and phrases of RFC 9110, section 15
 abbrev pub refusal_said : Refusal → Option Said
 refusal_said (BadHttp at) = Some (refused_at (codes "400 Bad Request") (codes "bad_http") at)
 refusal_said BadJson = Some (refused (codes "400 Bad Request") (codes "bad_json"))
-refusal_said (BadField name) = Some (refused_name (codes "400 Bad Request") (codes "bad_field") name)
+refusal_said (BadField name) = refused_name (codes "400 Bad Request") (codes "bad_field") name
 refusal_said AlreadyExists = Some (refused (codes "409 Conflict") (codes "already_exists"))
 refusal_said Memory = Some (refused (codes "500 Internal Server Error") (codes "out_of_memory"))
 refusal_said _ = None
