@@ -9,3 +9,4 @@ mod Results
 mod SessionLemmas
 mod Stream
 mod TurnLemmas
+mod WholeLemmas

@@ -26,6 +26,6 @@ is_no_object body d u r o = rw (is_utf8-from_IsUtf8 body u, r) (if_none d (as_ob
 
 pub is_unread : (body : List ℕ) → (IsUtf8 body → read body ≡ None) → object_in body ≡ None
 is_unread body h = elim (cases_Bool (is_utf8 body)) [
-    | inl u ↦ rw (u, h (IsUtf8-from_is_utf8 body u)) refl
-    | inr n ↦ rw n refl
-  ]
+  | inl u ↦ rw (u, h (IsUtf8-from_is_utf8 body u)) refl
+  | inr n ↦ rw n refl
+]

@@ -97,10 +97,7 @@ fn turn<S: Source, K: Sink, C: Clock>(
 }
 
 /// A session over the empty history: requests are answered in order, until it ends.
-pub fn session<S: Source, K: Sink, C: Clock>(
-    alloc: Global,
-    outside: &mut Outside<S, K, C>,
-) -> End
+pub fn session<S: Source, K: Sink, C: Clock>(alloc: Global, outside: &mut Outside<S, K, C>) -> End
     ensures session { (final : List Entry) × Session (fresh (world_of S.left C.answers K.written outside.old))
         (world_of S.left C.answers K.written outside.new) result final }
     ensures read_cause { result ≡ ReadFault → Rose (S.faults outside.old.source) (S.faults outside.new.source) }

@@ -16,9 +16,10 @@ returns-in-Ok-eq0-clause-reads g c =
 pub returns-in-Err-ReadFault-clause-reads : goal.returns-in-Err-ReadFault-clause-reads
 returns-in-Err-ReadFault-clause-reads g c =
     let same = rw c.in-Nothing.ensures.1 at c.in-Err-ReadFault.ensures.same in
-    let held : c.more.new.self.bytes ≡ c.loop-self.self.bytes = c.in-Err-ReadFault.ensures.err ∙ ap (λ (h : Held). h.bytes) c.in-Nothing.ensures.1 in
-    (stays_twice c.args.self.now c.loop-self.self c.more.new.self (g.S.Source.left c.args.source.now) (g.S.Source.left c.loop-self.source) (g.S.Source.left c.more.new.source) c.loop-self.invariant.same same,
-    no_request_in _ _ held c.in-Nothing.ensures.0)
+    let held : c.more.new.self.bytes ≡ c.loop-self.self.bytes = c.in-Err-ReadFault.ensures.err ∙ ap (λ (h : Held). h.bytes) c.in-Nothing.ensures.1 in (
+      stays_twice c.args.self.now c.loop-self.self c.more.new.self (g.S.Source.left c.args.source.now) (g.S.Source.left c.loop-self.source) (g.S.Source.left c.more.new.source) c.loop-self.invariant.same same,
+      no_request_in _ _ held c.in-Nothing.ensures.0,
+    )
 
 pub returns-in-Nothing-cut-clause-reads : goal.returns-in-Nothing-cut-clause-reads
 returns-in-Nothing-cut-clause-reads g c =

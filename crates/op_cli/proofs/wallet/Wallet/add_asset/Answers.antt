@@ -18,5 +18,5 @@ returns-then-has_asset-clause-handled c =
 pub returns-clause-handled : goal.returns-clause-handled
 returns-clause-handled c =
     let free : list_any (adds c.args.asset) c.args.self.now ≡ false =
-        ap (λ (entries : List Entry). list_any (adds c.args.asset) entries) (sym c.self.view_is ∙ sym c.deref.ensures.value) ∙ (sym c.has_asset.ensures ∙ c.if-has_asset.false) in
+    ap (λ (entries : List Entry). list_any (adds c.args.asset) entries) (sym c.self.view_is ∙ sym c.deref.ensures.value) ∙ (sym c.has_asset.ensures ∙ c.if-has_asset.false) in
     handles_new c.args.self.now _ c.args.answer c.args.asset c.args.pieces c.reply.result free (cc (c.self.view_is, c.deref-2.ensures.value, c.later.ensures, c.last_moment.ensures, c.at_most_last.ensures, c.of_code.ensures, c.in-Ok.ensures.items)) c.reply.ensures
