@@ -10,7 +10,7 @@ use std::{env, io};
 fn main(rt: HostRuntime) -> ExitCode {
     let status = match words_after_name(&rt) {
         Ok(words) => run(&rt, &words),
-        Err(_) => 8,
+        Err(fault) => status_without_words(&fault),
     };
     if let Some(line) = line_for(status) {
         let _ = eprintln!(rt; "{line}");
@@ -25,6 +25,14 @@ fn words_after_name<R: Env + AllocGlobal>(rt: &R) -> io::Result<Vec<String>> {
         words.push(word)?;
     }
     Ok(words)
+}
+
+/// The status where the words cannot be read: words that are no text are no command, and else memory was wanting.
+fn status_without_words(fault: &io::Error) -> u8 {
+    match fault.kind() {
+        io::ErrorKind::InvalidData => 2,
+        _ => 8,
+    }
 }
 
 /// The command over standard input, standard output and the system's clock.
