@@ -64,7 +64,16 @@ module _ (old new : List Entry) (h h' : Held) (w w' : World) (body : List ℕ) w
       read = consumes_trans (stream h w.left) (stream h' w'.left) w'.left takes.0 h'.bytes takes.2 (consumes_held h'.bytes w'.left);
       asked = failed.1.answer ∷ [];
       clock = failed.1.asked;
-      cause = inl (turn_here takes failed.1, here new h' w' (n + 1), begins takes failed.1 n below, failed.2, refl);
+      cause = inl (record {
+        turn = turn_here takes failed.1;
+        mid = here new h' w' (n + 1);
+        begun = begins takes failed.1 n below;
+        more = h'.bytes;
+        read = refl;
+        once = refl;
+        written = failed.2;
+        stands = refl;
+      });
     },
   )
   fails OutOfMemory takes failed n below = (
@@ -102,7 +111,7 @@ module _ (old : List Entry) (h h' : Held) (w : World) (left' written' : Option (
       read = stays_read h h' w.left left' refuses.0;
       asked = [];
       clock = asks_none w.answers;
-      cause = inr ((below, refuses.2), subst (λ (r : Reply). AppendsFront w.written written' (printed r)) (is ∙ ap (λ (k : ℕ). refusal_reply old (BadHttp k)) refuses.1) ends, refl);
+      cause = inr ((below, refuses.2), refl, subst (λ (r : Reply). AppendsFront w.written written' (printed r)) (is ∙ ap (λ (k : ℕ). refusal_reply old (BadHttp k)) refuses.1) ends, refl);
     },
   )
   malformed OutOfMemory at reply is refuses ends n below = (

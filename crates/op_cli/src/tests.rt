@@ -1,6 +1,4 @@
 //! The top call over the forms in memory. Expected bytes are written out here, and were not taken from a run.
-ghost use Rattle.std.specs.Prelude.{◌<◌};
-
 use crate::outside::Outside;
 use crate::program::wallet_main;
 use op_ports::{MemorySink, MemorySource, TableClock};
@@ -37,15 +35,14 @@ struct Outdoors<'a> {
 }
 
 /// `apply j` over this input.
-fn apply(alloc: Global, input: &str, outdoors: Outdoors<'_>) -> Result<Run, AllocError>
-    requires { 0 < outdoors.entry.piece }
-{
+fn apply(alloc: Global, input: &str, outdoors: Outdoors<'_>) -> Result<Run, AllocError> {
+    let piece = outdoors.piece.max(1);
     let source = Vec::from_slice(alloc, input.as_bytes())?;
     let bad_reads = Vec::from_slice(alloc, outdoors.bad_reads)?;
     let bad_writes = Vec::from_slice(alloc, outdoors.bad_writes)?;
     let mut outside = Outside {
-        source: MemorySource::new(source, outdoors.piece, bad_reads),
-        sink: MemorySink::new(Vec::new(alloc), outdoors.piece, bad_writes),
+        source: MemorySource::new(source, piece, bad_reads),
+        sink: MemorySink::new(Vec::new(alloc), piece, bad_writes),
         clock: TableClock::new(vec![in alloc; NOON]?),
     };
     let mut words = Vec::new(alloc);

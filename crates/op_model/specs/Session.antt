@@ -27,18 +27,25 @@ pub record IsIdle (last : Standing) (after : World) (asked : List ℕ) (final : 
   pub unwritten : Keeps last.world.written after.written
   pub same : final ≡ last.history
 
--- some of a turn's reply was written; its act stands
-abbrev pub CutsReply : Standing → World → List Entry → Type 0
-CutsReply last after final = (turn : Turn) × (mid : Standing) × Begins last turn mid
-    × AppendsFront last.world.written after.written (printed turn.reply) × (final ≡ mid.history)
+-- a further request was read and answered, and some of its reply was written; its act stands
+pub record CutsReply (last : Standing) (after : World) (held asked : List ℕ) (final : List Entry) : Type 0 where
+  pub turn : Turn
+  pub mid : Standing
+  pub begun : Begins last turn mid
+  -- what was read behind it
+  pub more : List ℕ
+  pub read : held ≡ turn.text ++ more
+  pub once : asked ≡ turn.answer ∷ []
+  pub written : AppendsFront last.world.written after.written (printed turn.reply)
+  pub stands : final ≡ mid.history
 
 -- what is left, where it is told, is not empty and begins with no request
 abbrev pub IsRefused : Standing → Type 0
 IsRefused last = (last.answered < turn_limit) × IfSome last.world.left IsMalformed
 
 -- some of the last refusal was written
-abbrev pub CutsRefusal : Standing → World → List Entry → Type 0
-CutsRefusal last after final = IsRefused last
+abbrev pub CutsRefusal : Standing → World → (asked : List ℕ) → List Entry → Type 0
+CutsRefusal last after asked final = IsRefused last × (asked ≡ [])
     × AppendsFront last.world.written after.written (printed (last_refusal last)) × (final ≡ last.history)
 
 -- why it ends
@@ -50,7 +57,7 @@ Cause Malformed last after held asked final = IsRefused last × (asked ≡ [])
 Cause TurnLimit last after held asked final = (last.answered ≡ turn_limit) × IsIdle last after asked final
 -- what was read since begins with no request, so each request that was read whole has its reply
 Cause ReadFault last after held asked final = (last.answered < turn_limit) × HasNoRequest held × IsIdle last after asked final
-Cause WriteFault last after held asked final = CutsReply last after final ⊎ CutsRefusal last after final
+Cause WriteFault last after held asked final = CutsReply last after held asked final ⊎ CutsRefusal last after asked final
 Cause OutOfMemory last after held asked final =
     (length asked ≤ 1) × Keeps last.world.written after.written × (final ≡ last.history)
 
