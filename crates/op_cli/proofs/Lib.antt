@@ -1,5 +1,4 @@
 mod Assets
-mod Cuts
 mod Fields
 mod FrontLaws
 mod Names

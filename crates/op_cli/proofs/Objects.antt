@@ -1,5 +1,5 @@
 -- Bodies that are objects, and bodies that are none.
-use Rattle.std.proofs.Common.{◌≡◌, List, ℕ, Bool, true, false, Some, None, is_some, IsUtf8, refl, inl, inr}
+use Rattle.std.proofs.Common.{◌≡◌, List, ℕ, true, false, Some, None, is_some, IsUtf8, refl, inl, inr}
 use Rattle.std.specs.Prelude.{option_and_then}
 use Rattle.std.specs.declared.option.Option.{Option}
 use Rattle.std.proofs.lemmas.Bool.{cases_Bool}
@@ -8,7 +8,7 @@ use Rattle.std.specs.Str.{is_utf8}
 use Rattle.serde_json.specs.Data.{Data}
 use Rattle.serde_json.specs.Find.{as_object}
 use Rattle.serde_json.specs.Read.{read}
-use Rattle.op_model.specs.Meant.{object_in, if_object}
+use Rattle.op_model.specs.Meant.{object_in}
 
 if_some : {M : Type 0} (d : Data) (o : Option M) → is_some o ≡ true → option_and_then (λ m. Some d) o ≡ Some d
 if_some d None e = absurd cc

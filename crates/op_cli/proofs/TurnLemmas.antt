@@ -5,7 +5,6 @@ use Rattle.std.specs.Io.KnownBytes.{Consumes, Appends, Keeps}
 use Rattle.op_ports.specs.Clock.{AsksKnown}
 use Rattle.op_ports.specs.Sink.{AppendsFront}
 use Rattle.op_model.specs.Printed.{printed}
-use Rattle.op_model.specs.Session.{Ends}
 use Rattle.op_model.specs.Turn.{Turn, Begins, turn_limit, refusal_reply}
 use Rattle.op_model.specs.World.{World}
 use Rattle.op_model.specs.declared.act.Entry.{Entry}

@@ -5,7 +5,7 @@ use Rattle.std.specs.declared.option.Option.{Option}
 use Rattle.std.specs.Io.KnownBytes.{Consumes, Appends, Keeps}
 use Rattle.op_model.specs.Printed.{printed}
 use Rattle.op_model.specs.Program.{Applies, code_of}
-use Rattle.op_model.specs.Session.{Session, fresh, texts, replies, refusal_behind, IsAnswered, IsComplete}
+use Rattle.op_model.specs.Session.{Session, fresh, texts, replies, refusal_behind, IsComplete}
 use Rattle.op_model.specs.Stream.{IsMalformed}
 use Rattle.op_model.specs.Turn.{Standing, Turn, Run, refusal_reply}
 use Rattle.op_model.specs.World.{World}

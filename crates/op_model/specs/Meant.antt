@@ -1,5 +1,5 @@
 -- What the body of a request means: a request, or what is wrong with it.
-use Rattle.std.specs.Prelude.{ℕ, Bool, ◌&&◌, nat_le, List, codes, if◌then◌else◌, Some, None, Ok, Err, option_and_then, ok_or}
+use Rattle.std.specs.Prelude.{ℕ, ◌&&◌, nat_le, List, codes, if◌then◌else◌, Some, None, Ok, option_and_then, ok_or}
 use Rattle.std.specs.Option.{option_map_or}
 use Rattle.std.specs.Str.{is_utf8}
 use Rattle.std.specs.declared.option.Option.{Option}

@@ -2,7 +2,6 @@
 use Rattle.std.specs.Prelude.{◌≡◌, ◌+◌, ◌<◌, ℕ, Bool, false, if◌then◌else◌, List, [], ◌∷◌, length, None, Ok, Err}
 use Rattle.std.specs.Io.KnownBytes.{Consumes, Appends}
 use Rattle.std.specs.declared.result.Result.{Result}
-use Rattle.op_amount.specs.declared.Pair.{Pair}
 use Rattle.op_ports.specs.Clock.{AsksKnown}
 use Rattle.op_model.specs.History.{moment_of_turn, origin_of}
 use Rattle.op_model.specs.Meant.{meant}

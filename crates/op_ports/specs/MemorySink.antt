@@ -1,5 +1,5 @@
 -- A sink in memory: what it holds, and what one call does.
-use Rattle.std.specs.Prelude.{◌≡◌, ℕ, Bool, true, false, ◌==◌, List, ◌++◌, length, take, min, MatchResult}
+use Rattle.std.specs.Prelude.{◌≡◌, ℕ, Bool, false, ◌==◌, List, ◌++◌, length, take, min, MatchResult}
 use Rattle.std.specs.List.{list_any}
 use Rattle.std.specs.declared.result.Result.{Result}
 use Rattle.op_ports.specs.Counts.{counted}

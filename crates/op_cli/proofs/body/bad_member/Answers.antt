@@ -1,4 +1,4 @@
-use Rattle.std.proofs.Common.{rules, ◌∙◌}
+use Rattle.std.proofs.Common.{◌∙◌}
 use Rattle.op_cli.proofs.Names.{is_printable}
 use Rattle.op_cli.proofs.body.bad_member.Goals as goal
 

@@ -1,6 +1,6 @@
 use Rattle.std.proofs.Common.{rules, ◌∙◌, sym, refl}
 use Rattle.serde_json.specs.View.{view}
-use Rattle.op_cli.proofs.Objects.{is_object, is_no_object, is_unread}
+use Rattle.op_cli.proofs.Objects.{is_object, is_unread}
 use Rattle.op_cli.proofs.body.object_in.Goals as goal
 
 pub returns-then-is_object-clause-object : goal.returns-then-is_object-clause-object

@@ -1,4 +1,3 @@
-use Rattle.std.proofs.Common.{rules}
 use Rattle.op_cli.proofs.Names.{is_text}
 use Rattle.op_cli.proofs.print.name_of.Goals as goal
 

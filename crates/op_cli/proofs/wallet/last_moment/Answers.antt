@@ -1,4 +1,4 @@
-use Rattle.std.proofs.Common.{◌≡◌, ◌∙◌, refl}
+use Rattle.std.proofs.Common.{refl}
 use Rattle.op_cli.proofs.Assets.{last_is}
 use Rattle.op_cli.proofs.wallet.last_moment.Goals as goal
 

@@ -1,4 +1,4 @@
-use Rattle.std.proofs.Common.{◌≡◌, ◌≤◌, length, arith, sym, ap, ◌∙◌}
+use Rattle.std.proofs.Common.{◌≡◌, ◌≤◌, length, arith, ap, ◌∙◌}
 use Rattle.op_cli.specs.Held.{Held}
 use Rattle.op_cli.proofs.Refused.{refused, ended, stays_twice, no_request_in}
 use Rattle.op_cli.proofs.reader.Reader.next.Goals as goal

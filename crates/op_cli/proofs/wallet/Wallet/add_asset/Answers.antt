@@ -1,4 +1,4 @@
-use Rattle.std.proofs.Common.{◌≡◌, ◌∙◌, List, Bool, false, sym, ap}
+use Rattle.std.proofs.Common.{◌≡◌, ◌∙◌, List, false, sym, ap}
 use Rattle.std.specs.List.{list_any}
 use Rattle.op_model.specs.History.{origin_of}
 use Rattle.op_model.specs.declared.act.Entry.{Entry}
