@@ -1,4 +1,4 @@
-use Rattle.std.proofs.Common.{◌≡◌, ◌≤◌, length, sym, arith, true}
+use Rattle.std.proofs.Common.{◌≡◌, ◌≤◌, length, arith, true}
 use Rattle.std.proofs.Math.Seq.{take-append_seam}
 use Rattle.std.proofs.lemmas.Bool.Decides.{nat_tests}
 use Rattle.op_amount.proofs.Padded.{length-padded, padded_is}

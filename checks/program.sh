@@ -1,0 +1,69 @@
+#!/bin/sh
+# The program's exit statuses, its output and its one line on standard error. Run after `make wallet`.
+set -u
+cd "$(dirname "$0")/.." || exit 1
+wallet=bin/wallet
+folder=$(mktemp -d)
+trap 'rm -rf "$folder"' EXIT
+failed=0
+
+# check NAME STATUS LINE: compares with what the last run left
+check() {
+    if [ "$status" -eq "$2" ] && [ "$(cat "$folder/err")" = "$3" ] && cmp -s "$folder/out" "$folder/want"; then
+        echo "ok      $1"
+    else
+        echo "FAILED  $1: status $status, standard error: $(cat "$folder/err")"
+        failed=1
+    fi
+}
+
+# run WORDS.. < INPUT
+run() {
+    "$wallet" "$@" > "$folder/out" 2> "$folder/err"
+    status=$?
+}
+
+cp crates/wallet/stdout "$folder/want"
+run apply wallet.journal < crates/wallet/stdin
+check 'the same asset twice' 0 ''
+
+: > "$folder/want"
+run apply wallet.journal < /dev/null
+check 'no input' 0 ''
+
+usage='usage: wallet apply JOURNAL'
+run < crates/wallet/stdin
+check 'no words' 2 "$usage"
+run apply < crates/wallet/stdin
+check 'no journal' 2 "$usage"
+run apply -j < crates/wallet/stdin
+check 'a journal with a dash in front' 2 "$usage"
+run apply '' < crates/wallet/stdin
+check 'an empty name of a journal' 2 "$usage"
+run serve wallet.journal < crates/wallet/stdin
+check 'another command' 2 "$usage"
+run apply wallet.journal more < crates/wallet/stdin
+check 'a word too many' 2 "$usage"
+run apply "$(head -c 4097 /dev/zero | tr '\0' j)" < crates/wallet/stdin
+check 'a name of 4097 bytes' 2 "$usage"
+run apply "$(head -c 4096 /dev/zero | tr '\0' j)" < /dev/null
+check 'a name of 4096 bytes' 0 ''
+
+run apply wallet.journal < /
+check 'an input that cannot be read' 4 'wallet: a read of the input failed'
+
+printf 'HTTP/1.1 400 Bad Request\r\nconnection: close\r\ncontent-length: 38\r\ncontent-type: application/json\r\n\r\n{"error":{"at":214,"code":"bad_http"}}' > "$folder/refusal"
+cat crates/wallet/stdout "$folder/refusal" > "$folder/want"
+{ cat crates/wallet/stdin; printf X; } | "$wallet" apply wallet.journal > "$folder/out" 2> "$folder/err"
+status=$?
+check 'a rest that is no request' 10 'wallet: the rest of the input begins with no request'
+
+if [ -c /dev/full ]; then
+    : > "$folder/want"
+    : > "$folder/out"
+    "$wallet" apply wallet.journal < crates/wallet/stdin > /dev/full 2> "$folder/err"
+    status=$?
+    check 'an output that takes nothing' 6 'wallet: a write of the output failed'
+fi
+
+exit $failed

@@ -1,0 +1,11 @@
+mod Assets
+mod Fields
+mod FrontLaws
+mod Names
+mod Objects
+mod Refused
+mod Results
+mod SessionLemmas
+mod Stream
+mod TurnLemmas
+mod WholeLemmas

@@ -1,0 +1,19 @@
+-- What the parts of the printer answer.
+use Rattle.std.specs.Prelude.{◌≡◌, false, Some, None}
+use Rattle.std.specs.declared.option.Option.{Option}
+use Rattle.op_model.specs.Printed as model
+use Rattle.op_cli.specs.declared.print.Form.{Form}
+use Rattle.serde_json.specs.Data.{Data}
+use Rattle.serde_json.specs.View.{view}
+use Rattle.serde_json.specs.Written.{has_float}
+use Rattle.serde_json.specs.declared.value.Value.{Value}
+
+-- the value is this data, and has no number with a point or an exponent
+pub record IsPlain (what : Data) (value : Value) : Type 0 where
+  pub is : view value ≡ what
+  pub plain : has_float what ≡ false
+
+-- it is what the model says, which is there
+abbrev pub IsSaid : Option model.Said → Form → Type 0
+IsSaid None what = ⊥
+IsSaid (Some said) what = (what.status.now ≡ said.status) × IsPlain said.body what.body

@@ -1,0 +1,98 @@
+-- A turn: one request, from its bytes to its reply.
+use Rattle.std.specs.Prelude.{◌≡◌, ◌+◌, ◌<◌, ℕ, Bool, false, if◌then◌else◌, List, [], ◌∷◌, length, None, Ok, Err}
+use Rattle.std.specs.Io.KnownBytes.{Consumes, Appends}
+use Rattle.std.specs.declared.result.Result.{Result}
+use Rattle.op_ports.specs.Clock.{AsksKnown}
+use Rattle.op_model.specs.History.{moment_of_turn, origin_of}
+use Rattle.op_model.specs.Meant.{meant}
+use Rattle.op_model.specs.Printed.{printed}
+use Rattle.op_model.specs.Round.{Terms, Handled, IsPlainRound}
+use Rattle.op_model.specs.Stream.{IsRequest}
+use Rattle.op_model.specs.World.{World}
+use Rattle.op_model.specs.declared.act.Entry.{Entry}
+use Rattle.op_model.specs.declared.reply.Reply.{Reply}
+use Rattle.op_model.specs.declared.reply.ReplyBody.TheVariants.{Refused}
+use Rattle.op_model.specs.declared.reply.Refusal.{Refusal}
+use Rattle.op_model.specs.declared.reply.Refusal.TheVariants.{Memory}
+use Rattle.op_model.specs.declared.request.Request.{Request}
+use Rattle.op_model.specs.declared.request.Task.TheVariants.{Ask}
+use Rattle.op_model.specs.declared.request.Verdict.{Verdict}
+
+-- the most requests of one session
+abbrev pub turn_limit : ℕ
+turn_limit = 1000000000
+
+pub record Turn : Type 0 where
+  -- the request's bytes in the stream, and its body
+  pub text : List ℕ
+  pub body : List ℕ
+  -- what the clock answered
+  pub answer : ℕ
+  -- sixteen bytes; no act that is built so far keeps them
+  pub word : List ℕ
+  pub wanted_memory : Bool
+  pub reply : Reply
+
+-- ---- what a request is replied, and what it adds
+
+-- who asks is not looked at yet
+abbrev pub nobody : Verdict
+nobody = record { client = None; proved = false; token = None }
+
+-- no fee rule is there yet, and none is asked
+abbrev pub NoTerms : Terms
+NoTerms pair amount fee = ⊥
+
+-- the turn's one task, as it was handled: at the place before its act
+abbrev pub handled : Request → Turn → Handled
+handled request turn = record {
+  task = Ask request nobody;
+  word = turn.word;
+  fee = 0;
+  place = 0;
+  wanted_memory = turn.wanted_memory;
+  reply = turn.reply;
+}
+
+abbrev pub refusal_reply : List Entry → Refusal → Reply
+refusal_reply history refusal = record { origin = origin_of history; body = Refused refusal }
+
+-- A request that is understood is a round of one task. Any other has its refusal, and adds nothing.
+-- Want of memory may stand in place of either reply.
+abbrev pub IsReplied : (old : List Entry) → Turn → Result Request Refusal → (new : List Entry) → Type 0
+IsReplied old turn (Ok request) new =
+    IsPlainRound NoTerms (length old) old (moment_of_turn old turn.answer) (handled request turn ∷ []) new
+IsReplied old turn (Err refusal) new =
+    (turn.reply ≡ refusal_reply old (if turn.wanted_memory then Memory else refusal)) × (new ≡ old)
+
+-- ---- where a session stands between two turns
+
+pub record Standing : Type 0 where
+  pub history : List Entry
+  -- how many requests were answered
+  pub answered : ℕ
+  -- where the next one begins in the stream
+  pub at : ℕ
+  -- what is left to read begins with it
+  pub world : World
+
+-- A request is read, the clock is asked once, and the request is answered. The reply is not written yet.
+pub record Begins (old : Standing) (turn : Turn) (new : Standing) : Type 0 where
+  pub limit : old.answered < turn_limit
+  pub spelled : IsRequest turn.text turn.body
+  pub read : Consumes old.world.left new.world.left turn.text
+  pub asked : AsksKnown old.world.answers new.world.answers (turn.answer ∷ [])
+  pub drawn : length turn.word ≡ 16
+  pub replied : IsReplied old.history turn (meant turn.body) new.history
+  pub counted : new.answered ≡ old.answered + 1
+  pub moved : new.at ≡ old.at + length turn.text
+
+-- a whole turn
+pub record IsTurn (old : Standing) (turn : Turn) (new : Standing) : Type 0 where
+  pub begun : Begins old turn new
+  pub written : Appends old.world.written new.world.written (printed turn.reply)
+
+-- turns, one after another
+abbrev pub Run : Standing → List Turn → Standing → Type 0
+Run first [] last = last ≡ first
+Run first (turn ∷ turns) last = (mid : Standing) × IsTurn first turn mid × Run mid turns last

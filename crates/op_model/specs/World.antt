@@ -1,0 +1,12 @@
+-- What the outside tells.
+use Rattle.std.specs.Prelude.{ℕ, List}
+use Rattle.std.specs.declared.option.Option.{Option}
+
+-- each where it is told
+pub record World : Type 0 where
+  -- the bytes that are left to read
+  pub left : Option (List ℕ)
+  -- what the clock will answer
+  pub answers : Option (List ℕ)
+  -- what was written
+  pub written : Option (List ℕ)
