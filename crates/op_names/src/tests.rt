@@ -4,7 +4,7 @@ use crate::{
     Hmac, Id, Kind, Letter, NameFault, id_text, interaction_hash, is_finish_uri, read_address,
     read_client, read_id, read_origin, read_path, read_row, read_secret, secret_text,
 };
-use std::alloc::Global;
+use std::alloc::{AllocError, Global};
 use std::process::Abort;
 use std::test::Fail;
 
@@ -84,6 +84,22 @@ fn hash_of_rfc_9635(rt: HostRuntime) {
     assert!(rt; hash.as_slice() == b"x-gguKWTj8rQf7d7i3w3UhzvuJ5bpOlKyAlVpLxBffY".as_slice());
 }
 
+fn expect_ids(rt: &impl Abort, table: &[(&str, Kind, u64)]) {
+    for (text, kind, number) in table {
+        let id = Id {
+            kind: *kind,
+            number: *number,
+        };
+        assert_eq!(rt; read_id(text), Some(id), "{text}");
+    }
+}
+
+fn expect_no_ids(rt: &impl Abort, texts: &[&str]) {
+    for text in texts {
+        assert_eq!(rt; read_id(text), None, "{text}");
+    }
+}
+
 #[test]
 fn identifiers(rt: HostRuntime) {
     let printed = id_text(Id {
@@ -91,35 +107,37 @@ fn identifiers(rt: HostRuntime) {
         number: 0xf81d_4fae_7dec,
     });
     assert!(rt; printed.as_slice() == b"00000005-0000-8000-8000-f81d4fae7dec".as_slice());
-    for (text, kind, number) in [
-        ("00000001-0000-8000-8000-000000000001", Kind::Incoming, 1),
-        (
-            "00000006-0000-8000-8000-F81D4FAE7DEC",
-            Kind::Address,
-            0xf81d_4fae_7dec,
-        ),
-        (
-            "00000004-0000-8000-8000-ffffFFFFffff",
-            Kind::Grant,
-            281_474_976_710_655,
-        ),
-    ] {
-        assert_eq!(rt; read_id(text), Some(Id { kind, number }), "{text}");
-    }
-    for text in [
-        "",
-        "f81d4fae-7dec-11d0-a765-00a0c91e6bf6",
-        "00000000-0000-8000-8000-000000000001",
-        "00000007-0000-8000-8000-000000000001",
-        "00000001-0000-7000-8000-000000000001",
-        "00000001-0000-8000-8000-00000000001",
-        "00000001-0000-8000-8000-0000000000001",
-        "00000001-0000-8000-8000-+00000000001",
-        "000000010000-8000-8000-0000000000001",
-        "{00000001-0000-8000-8000-00000000001}",
-    ] {
-        assert_eq!(rt; read_id(text), None, "{text}");
-    }
+    expect_ids(
+        &rt,
+        &[
+            ("00000001-0000-8000-8000-000000000001", Kind::Incoming, 1),
+            (
+                "00000006-0000-8000-8000-F81D4FAE7DEC",
+                Kind::Address,
+                0xf81d_4fae_7dec,
+            ),
+            (
+                "00000004-0000-8000-8000-ffffFFFFffff",
+                Kind::Grant,
+                281_474_976_710_655,
+            ),
+        ],
+    );
+    expect_no_ids(
+        &rt,
+        &[
+            "",
+            "f81d4fae-7dec-11d0-a765-00a0c91e6bf6",
+            "00000000-0000-8000-8000-000000000001",
+            "00000007-0000-8000-8000-000000000001",
+            "00000001-0000-7000-8000-000000000001",
+            "00000001-0000-8000-8000-00000000001",
+            "00000001-0000-8000-8000-0000000000001",
+            "00000001-0000-8000-8000-+00000000001",
+            "000000010000-8000-8000-0000000000001",
+            "{00000001-0000-8000-8000-00000000001}",
+        ],
+    );
 }
 
 /// Whether a text is an origin, kept as it was sent.
@@ -131,38 +149,56 @@ fn is_origin(alloc: Global, text: &str) -> Result<bool, NameFault> {
     }
 }
 
+fn expect_origins(
+    rt: &impl Abort,
+    alloc: Global,
+    texts: &[&str],
+    are: bool,
+) -> Result<(), NameFault> {
+    for text in texts {
+        assert_eq!(rt; is_origin(alloc, text)?, are, "{text}");
+    }
+    Ok(())
+}
+
 #[test]
 fn origins(rt: HostRuntime) -> Result<(), Fail> {
     let alloc = rt.alloc();
-    for text in [
-        "https://wallet.example",
-        "https://pay.example:8443",
-        "http://127.0.0.1:8080",
-        "http://[::1]",
-    ] {
-        assert_eq!(rt; is_origin(alloc, text)?, true, "{text}");
-    }
-    for text in [
-        "",
-        "https://",
-        "wallet.example",
-        "ftp://wallet.example",
-        "HTTPS://wallet.example",
-        "https://Wallet.example",
-        "https://wallet.example:443",
-        "http://wallet.example:80",
-        "https://wallet.example/",
-        "https://wallet.example/a",
-        "https://wallet.example?a",
-        "https://wallet.example#a",
-        "https://alice@wallet.example",
-        "https://:key@wallet.example",
-        " https://wallet.example",
-        "https:\\\\wallet.example",
-        "https:///wallet.example",
-    ] {
-        assert_eq!(rt; is_origin(alloc, text)?, false, "{text}");
-    }
+    expect_origins(
+        &rt,
+        alloc,
+        &[
+            "https://wallet.example",
+            "https://pay.example:8443",
+            "http://127.0.0.1:8080",
+            "http://[::1]",
+        ],
+        true,
+    )?;
+    expect_origins(
+        &rt,
+        alloc,
+        &[
+            "",
+            "https://",
+            "wallet.example",
+            "ftp://wallet.example",
+            "HTTPS://wallet.example",
+            "https://Wallet.example",
+            "https://wallet.example:443",
+            "http://wallet.example:80",
+            "https://wallet.example/",
+            "https://wallet.example/a",
+            "https://wallet.example?a",
+            "https://wallet.example#a",
+            "https://alice@wallet.example",
+            "https://:key@wallet.example",
+            " https://wallet.example",
+            "https:\\\\wallet.example",
+            "https:///wallet.example",
+        ],
+        false,
+    )?;
     let label = "abcdefghijklmnopqrstuvwxyz0123456789abcdefghijklmnopqrstuvwxyz";
     let at_limit = format!(in alloc; "https://{label}.{label}.{label}.abc")?;
     let past_limit = format!(in alloc; "https://{label}.{label}.{label}.abcd")?;
@@ -181,47 +217,65 @@ fn is_path(alloc: Global, text: &str) -> Result<bool, NameFault> {
     }
 }
 
+fn expect_paths(
+    rt: &impl Abort,
+    alloc: Global,
+    texts: &[&str],
+    are: bool,
+) -> Result<(), NameFault> {
+    for text in texts {
+        assert_eq!(rt; is_path(alloc, text)?, are, "{text}");
+    }
+    Ok(())
+}
+
 #[test]
 fn paths(rt: HostRuntime) -> Result<(), Fail> {
     let alloc = rt.alloc();
     let long = "0123456789abcdefghijklmnopqrstuvwxyzABCDEFGHIJKLMNOPQRSTUVWXYZ-_";
     assert_eq!(rt; long.len(), 64);
-    for text in [
-        "/alice",
-        "/.well-known/pay",
-        "/a/b/c/d/e/f/g/h",
-        "/~a.b/...",
-        "/Admin",
-        "/a/admin",
-        "/grants",
-    ] {
-        assert_eq!(rt; is_path(alloc, text)?, true, "{text}");
-    }
-    for text in [
-        "",
-        "/",
-        "alice",
-        "//",
-        "/alice/",
-        "/a//b",
-        "/.",
-        "/a/..",
-        "/../a",
-        "/a%20b",
-        "/a b",
-        "/a?b",
-        "/a/b/c/d/e/f/g/h/i",
-        "/admin",
-        "/grant/a",
-        "/continue",
-        "/token/1",
-        "/incoming-payments",
-        "/quotes/a",
-        "/outgoing-payments",
-        "/monetization/a/b",
-    ] {
-        assert_eq!(rt; is_path(alloc, text)?, false, "{text}");
-    }
+    expect_paths(
+        &rt,
+        alloc,
+        &[
+            "/alice",
+            "/.well-known/pay",
+            "/a/b/c/d/e/f/g/h",
+            "/~a.b/...",
+            "/Admin",
+            "/a/admin",
+            "/grants",
+        ],
+        true,
+    )?;
+    expect_paths(
+        &rt,
+        alloc,
+        &[
+            "",
+            "/",
+            "alice",
+            "//",
+            "/alice/",
+            "/a//b",
+            "/.",
+            "/a/..",
+            "/../a",
+            "/a%20b",
+            "/a b",
+            "/a?b",
+            "/a/b/c/d/e/f/g/h/i",
+            "/admin",
+            "/grant/a",
+            "/continue",
+            "/token/1",
+            "/incoming-payments",
+            "/quotes/a",
+            "/outgoing-payments",
+            "/monetization/a/b",
+        ],
+        false,
+    )?;
     let segment_at_limit = format!(in alloc; "/{long}")?;
     let segment_past_limit = format!(in alloc; "/{long}a")?;
     let at_limit = format!(in alloc; "/{long}/{}", &long[2..])?;
@@ -249,35 +303,64 @@ fn names_address(alloc: Global, text: &str, origin: &str, path: &str) -> Result<
     }
 }
 
+fn expect_addresses(
+    rt: &impl Abort,
+    alloc: Global,
+    table: &[(&str, &str, &str)],
+) -> Result<(), NameFault> {
+    for (text, origin, path) in table {
+        assert_eq!(rt; names_address(alloc, text, origin, path)?, true, "{text}");
+    }
+    Ok(())
+}
+
 #[test]
 fn addresses_and_payment_pointers(rt: HostRuntime) -> Result<(), Fail> {
     let alloc = rt.alloc();
-    for (text, origin, path) in [
-        ("$pay.example", "https://pay.example", "/.well-known/pay"),
-        ("$pay.example/", "https://pay.example", "/.well-known/pay"),
-        ("$pay.example/alice", "https://pay.example", "/alice"),
-        ("$pay.example/a/b", "https://pay.example", "/a/b"),
-        ("https://pay.example/alice", "https://pay.example", "/alice"),
-        ("http://127.0.0.1:8080/a/b", "http://127.0.0.1:8080", "/a/b"),
-        ("", "", ""),
-        ("$", "", ""),
-        ("$/alice", "", ""),
-        ("$pay.example:8443", "", ""),
-        ("$pay.example:8443/alice", "", ""),
-        ("$alice@pay.example", "", ""),
-        ("$Pay.example", "", ""),
-        ("$pay.example?a", "", ""),
-        ("$pay.example/#a", "", ""),
-        ("$pay.example//", "", ""),
-        ("$pay.example/admin", "", ""),
-        ("https://pay.example", "", ""),
-        ("https://pay.example/", "", ""),
-        ("https://alice@pay.example/alice", "", ""),
-        ("https://pay.example:443/alice", "", ""),
-        ("https://pay.example/alice?a", "", ""),
-        ("pay.example/alice", "", ""),
-    ] {
-        assert_eq!(rt; names_address(alloc, text, origin, path)?, true, "{text}");
+    expect_addresses(
+        &rt,
+        alloc,
+        &[
+            ("$pay.example", "https://pay.example", "/.well-known/pay"),
+            ("$pay.example/", "https://pay.example", "/.well-known/pay"),
+            ("$pay.example/alice", "https://pay.example", "/alice"),
+            ("$pay.example/a/b", "https://pay.example", "/a/b"),
+            ("https://pay.example/alice", "https://pay.example", "/alice"),
+            ("http://127.0.0.1:8080/a/b", "http://127.0.0.1:8080", "/a/b"),
+            ("", "", ""),
+            ("$", "", ""),
+            ("$/alice", "", ""),
+            ("$pay.example:8443", "", ""),
+            ("$pay.example:8443/alice", "", ""),
+            ("$alice@pay.example", "", ""),
+            ("$Pay.example", "", ""),
+            ("$pay.example?a", "", ""),
+            ("$pay.example/#a", "", ""),
+            ("$pay.example//", "", ""),
+            ("$pay.example/admin", "", ""),
+            ("https://pay.example", "", ""),
+            ("https://pay.example/", "", ""),
+            ("https://alice@pay.example/alice", "", ""),
+            ("https://pay.example:443/alice", "", ""),
+            ("https://pay.example/alice?a", "", ""),
+            ("pay.example/alice", "", ""),
+        ],
+    )?;
+    Ok(())
+}
+
+fn expect_rows(
+    rt: &impl Abort,
+    alloc: Global,
+    table: &[(&str, Kind, Option<u64>)],
+) -> Result<(), NameFault> {
+    for (text, kind, number) in table {
+        let found = match read_row(alloc, text, *kind) {
+            Ok(name) => Some(name.id.number),
+            Err(NameFault::Shape) => None,
+            Err(NameFault::Memory) => return Err(NameFault::Memory),
+        };
+        assert_eq!(rt; found, *number, "{text}");
     }
     Ok(())
 }
@@ -285,55 +368,52 @@ fn addresses_and_payment_pointers(rt: HostRuntime) -> Result<(), Fail> {
 #[test]
 fn rows(rt: HostRuntime) -> Result<(), Fail> {
     let alloc = rt.alloc();
-    for (text, kind, number) in [
-        (
-            "https://pay.example/incoming-payments/00000001-0000-8000-8000-000000000001",
-            Kind::Incoming,
-            Some(1),
-        ),
-        (
-            "https://pay.example:8443/quotes/00000002-0000-8000-8000-0000000000AF",
-            Kind::Quote,
-            Some(175),
-        ),
-        (
-            "https://pay.example/outgoing-payments/00000003-0000-8000-8000-000000000009",
-            Kind::Outgoing,
-            Some(9),
-        ),
-        (
-            "https://pay.example/quotes/00000001-0000-8000-8000-000000000001",
-            Kind::Quote,
-            None,
-        ),
-        (
-            "https://pay.example/quotes/00000002-0000-8000-8000-000000000001",
-            Kind::Incoming,
-            None,
-        ),
-        (
-            "https://pay.example/quotes/00000002-0000-8000-8000-000000000001/",
-            Kind::Quote,
-            None,
-        ),
-        (
-            "$pay.example/quotes/00000002-0000-8000-8000-000000000001",
-            Kind::Quote,
-            None,
-        ),
-        (
-            "https://pay.example/grant/00000004-0000-8000-8000-000000000001",
-            Kind::Grant,
-            None,
-        ),
-    ] {
-        let found = match read_row(alloc, text, kind) {
-            Ok(name) => Some(name.id.number),
-            Err(NameFault::Shape) => None,
-            Err(NameFault::Memory) => return Err(Fail::from(NameFault::Memory)),
-        };
-        assert_eq!(rt; found, number, "{text}");
-    }
+    expect_rows(
+        &rt,
+        alloc,
+        &[
+            (
+                "https://pay.example/incoming-payments/00000001-0000-8000-8000-000000000001",
+                Kind::Incoming,
+                Some(1),
+            ),
+            (
+                "https://pay.example:8443/quotes/00000002-0000-8000-8000-0000000000AF",
+                Kind::Quote,
+                Some(175),
+            ),
+            (
+                "https://pay.example/outgoing-payments/00000003-0000-8000-8000-000000000009",
+                Kind::Outgoing,
+                Some(9),
+            ),
+            (
+                "https://pay.example/quotes/00000001-0000-8000-8000-000000000001",
+                Kind::Quote,
+                None,
+            ),
+            (
+                "https://pay.example/quotes/00000002-0000-8000-8000-000000000001",
+                Kind::Incoming,
+                None,
+            ),
+            (
+                "https://pay.example/quotes/00000002-0000-8000-8000-000000000001/",
+                Kind::Quote,
+                None,
+            ),
+            (
+                "$pay.example/quotes/00000002-0000-8000-8000-000000000001",
+                Kind::Quote,
+                None,
+            ),
+            (
+                "https://pay.example/grant/00000004-0000-8000-8000-000000000001",
+                Kind::Grant,
+                None,
+            ),
+        ],
+    )?;
     Ok(())
 }
 
@@ -346,22 +426,31 @@ fn is_client(alloc: Global, text: &str) -> Result<bool, NameFault> {
     }
 }
 
+fn expect_clients(rt: &impl Abort, alloc: Global, table: &[(&str, bool)]) -> Result<(), NameFault> {
+    for (text, is) in table {
+        assert_eq!(rt; is_client(alloc, text)?, *is, "{text}");
+    }
+    Ok(())
+}
+
 #[test]
 fn clients(rt: HostRuntime) -> Result<(), Fail> {
     let alloc = rt.alloc();
-    for (text, is) in [
-        ("https://shop.example/keys?a#b", true),
-        ("http://shop.example", true),
-        ("https://", true),
-        ("", false),
-        ("shop.example", false),
-        ("https:/shop.example", false),
-        ("https://shop.example/a b", false),
-        ("https://shop.example/\u{e9}", false),
-        (" https://shop.example", false),
-    ] {
-        assert_eq!(rt; is_client(alloc, text)?, is, "{text}");
-    }
+    expect_clients(
+        &rt,
+        alloc,
+        &[
+            ("https://shop.example/keys?a#b", true),
+            ("http://shop.example", true),
+            ("https://", true),
+            ("", false),
+            ("shop.example", false),
+            ("https:/shop.example", false),
+            ("https://shop.example/a b", false),
+            ("https://shop.example/\u{e9}", false),
+            (" https://shop.example", false),
+        ],
+    )?;
     let part = "0123456789abcdef0123456789abcdef0123456789abcdef0123456789abcdef";
     let at_limit = format!(in alloc; "https://{part}{part}{part}{}", &part[8..])?;
     let past_limit = format!(in alloc; "https://{part}{part}{part}{}", &part[7..])?;
@@ -371,23 +460,36 @@ fn clients(rt: HostRuntime) -> Result<(), Fail> {
     Ok(())
 }
 
+fn expect_finish_addresses(
+    rt: &impl Abort,
+    alloc: Global,
+    table: &[(&str, bool)],
+) -> Result<(), AllocError> {
+    for (text, is) in table {
+        assert_eq!(rt; is_finish_uri(alloc, text)?, *is, "{text}");
+    }
+    Ok(())
+}
+
 #[test]
 fn finish_addresses(rt: HostRuntime) -> Result<(), Fail> {
     let alloc = rt.alloc();
-    for (text, is) in [
-        ("https://shop.example/done?order=1", true),
-        ("http://127.0.0.1:9000", true),
-        ("HTTPS:shop.example", true),
-        ("https://shop.example/#", false),
-        ("https://shop.example/#a", false),
-        ("https://shop.example/\u{e9}", false),
-        ("ftp://shop.example/done", false),
-        ("mailto:shop@shop.example", false),
-        ("done", false),
-        ("", false),
-    ] {
-        assert_eq!(rt; is_finish_uri(alloc, text)?, is, "{text}");
-    }
+    expect_finish_addresses(
+        &rt,
+        alloc,
+        &[
+            ("https://shop.example/done?order=1", true),
+            ("http://127.0.0.1:9000", true),
+            ("HTTPS:shop.example", true),
+            ("https://shop.example/#", false),
+            ("https://shop.example/#a", false),
+            ("https://shop.example/\u{e9}", false),
+            ("ftp://shop.example/done", false),
+            ("mailto:shop@shop.example", false),
+            ("done", false),
+            ("", false),
+        ],
+    )?;
     let part = "0123456789abcdef0123456789abcdef0123456789abcdef0123456789abcdef";
     let long = format!(in alloc; "{part}{part}{part}{part}{part}{part}{part}")?;
     let at_limit = format!(in alloc; "https://a/{long}{}", &part[10..])?;
@@ -396,6 +498,27 @@ fn finish_addresses(rt: HostRuntime) -> Result<(), Fail> {
     assert_eq!(rt; is_finish_uri(alloc, at_limit.as_str())?, true);
     assert_eq!(rt; is_finish_uri(alloc, past_limit.as_str())?, false);
     Ok(())
+}
+
+fn expect_no_secrets(rt: &impl Abort, texts: &[&str]) {
+    for text in texts {
+        assert_eq!(rt; read_secret(text.as_bytes()), None, "{text}");
+    }
+}
+
+/// Secrets of one word that was drawn at the seventh place.
+fn expect_secrets(rt: &impl Abort, word: &[u8; 16], table: &[(Letter, &str)]) {
+    for (letter, text) in table {
+        assert!(rt;
+            secret_text(*letter, word, 7).as_bytes() == text.as_bytes(),
+            "{text}"
+        );
+        assert_eq!(rt;
+            read_secret(text.as_bytes()),
+            Some((*letter, *word, 7)),
+            "{text}"
+        );
+    }
 }
 
 #[test]
@@ -410,34 +533,29 @@ fn secrets(rt: HostRuntime) {
         read_secret(printed),
         Some((Letter::Continuation, word, u64::MAX))
     );
-    for text in [
-        "",
-        "c00010f107f80abcdefff090a6364c82a-",
-        "c00010f107f80abcdefff090a6364c82a-01",
-        "c00010f107f80abcdefff090a6364c82a-+1",
-        "c00010f107f80abcdefff090a6364c82a-1 ",
-        "c00010f107f80abcdefff090a6364c82a-18446744073709551616",
-        "c00010F107F80ABCDEFFF090A6364C82A-1",
-        "c00010f107f80abcdefff090a6364c82-1",
-        "c00010f107f80abcdefff090a6364c82a_1",
-        "x00010f107f80abcdefff090a6364c82a-1",
-        "C00010f107f80abcdefff090a6364c82a-1",
-    ] {
-        assert_eq!(rt; read_secret(text.as_bytes()), None, "{text}");
-    }
-    for (letter, text) in [
-        (Letter::Access, "a00010f107f80abcdefff090a6364c82a-7"),
-        (Letter::Nonce, "n00010f107f80abcdefff090a6364c82a-7"),
-        (Letter::Interaction, "i00010f107f80abcdefff090a6364c82a-7"),
-    ] {
-        assert!(rt;
-            secret_text(letter, &word, 7).as_bytes() == text.as_bytes(),
-            "{text}"
-        );
-        assert_eq!(rt;
-            read_secret(text.as_bytes()),
-            Some((letter, word, 7)),
-            "{text}"
-        );
-    }
+    expect_no_secrets(
+        &rt,
+        &[
+            "",
+            "c00010f107f80abcdefff090a6364c82a-",
+            "c00010f107f80abcdefff090a6364c82a-01",
+            "c00010f107f80abcdefff090a6364c82a-+1",
+            "c00010f107f80abcdefff090a6364c82a-1 ",
+            "c00010f107f80abcdefff090a6364c82a-18446744073709551616",
+            "c00010F107F80ABCDEFFF090A6364C82A-1",
+            "c00010f107f80abcdefff090a6364c82-1",
+            "c00010f107f80abcdefff090a6364c82a_1",
+            "x00010f107f80abcdefff090a6364c82a-1",
+            "C00010f107f80abcdefff090a6364c82a-1",
+        ],
+    );
+    expect_secrets(
+        &rt,
+        &word,
+        &[
+            (Letter::Access, "a00010f107f80abcdefff090a6364c82a-7"),
+            (Letter::Nonce, "n00010f107f80abcdefff090a6364c82a-7"),
+            (Letter::Interaction, "i00010f107f80abcdefff090a6364c82a-7"),
+        ],
+    );
 }
