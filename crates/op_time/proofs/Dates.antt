@@ -1,8 +1,7 @@
 -- The date of a day has that day's number.
-use Rattle.std.proofs.Common.{true, false, Bool, ◌≡◌, ◌≤◌, ◌<◌, ◌+◌, ◌-◌, ◌*◌, ◌/◌, ◌%◌, ℕ, zero, suc, cond, pos, refl, Some, None, if◌then◌else◌, ◌&&◌, ap, min, arith, nat_le, List, [], ◌∷◌, ◌⊎◌, inl, inr}
+use Rattle.std.proofs.Common.{◌≡◌, ◌≤◌, ◌<◌, ◌+◌, ◌-◌, ◌*◌, ◌/◌, ◌%◌, ℕ, zero, suc, refl, Some, None, if◌then◌else◌, ◌&&◌, ap, arith, nat_le, [], ◌∷◌, inl, inr}
 use Rattle.std.proofs.lemmas.Bool.{cases_lt, cases_order}
 use Rattle.std.proofs.lemmas.Bool.Decides.{nat_tests}
-use Rattle.jiff_core.specs.Calendar.{days_in_year}
 use Rattle.op_time.specs.Calendar.{month_length, days_before_year, days_before_month, Date, day_number, first_passing, year_of_day, month_of_day, date_of}
 use Rattle.op_time.proofs.Days.{days_before_year-suc, days_before_month-next, days_before_month-december, days_before_year_low, days_before_year_high}
 use Rattle.op_time.proofs.Months.{first_of_month, length_of_month, first_of_month-later}

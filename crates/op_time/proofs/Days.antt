@@ -1,8 +1,8 @@
 -- Days of years and months, counted.
-use Rattle.std.proofs.Common.{true, false, Bool, ◌≡◌, ◌≤◌, ◌<◌, ◌+◌, ◌-◌, ◌*◌, ◌/◌, ◌%◌, ℕ, zero, suc, cond, pos, refl, min, arith, nat_le, List, [], ◌∷◌, ◌⊎◌, inl, inr}
+use Rattle.std.proofs.Common.{◌≡◌, ◌≤◌, ◌+◌, ◌*◌, ℕ, zero, suc, pos, arith}
 use Rattle.std.proofs.lemmas.Bool.Decides.{nat_tests}
-use Rattle.jiff_core.specs.Calendar.{days_in_year, is_leap_year, days_in_month}
-use Rattle.op_time.specs.Calendar.{month_length, days_before_year, days_before_month, Date, day_number, first_passing, year_of_day, month_of_day, date_of, epoch}
+use Rattle.jiff_core.specs.Calendar.{days_in_year}
+use Rattle.op_time.specs.Calendar.{month_length, days_before_year, days_before_month}
 
 -- the next year begins after the days of this one
 pub days_before_year-suc : (y : ℕ) → days_before_year (suc y) ≡ days_before_year y + days_in_year (pos y)

@@ -1,18 +1,17 @@
 -- The number of a day, against the day numbers of the calendar's crate, which are 0 for the first of January 1970.
-use Rattle.std.proofs.Common.{◌≡◌, ◌≤◌, ◌<◌, ◌+◌, ◌-◌, ◌*◌, ◌^◌, ℕ, zero, suc, ℤ, pos, negsuc, ◌+ℤ◌, ◌<ℤ◌, ◌≤ℤ◌, unsigned_abs, to_z, of_z, w16, subst, refl, sym, ap, ◌∙◌, Some, None, nat_le, if◌then◌else◌, ◌&&◌, arith}
+use Rattle.std.proofs.Common.{◌≡◌, ◌≤◌, ◌<◌, ◌+◌, ◌-◌, ◌^◌, ℕ, zero, suc, ℤ, pos, negsuc, ◌+ℤ◌, ◌≤ℤ◌, unsigned_abs, to_z, of_z, w16, subst, refl, sym, ap, ◌∙◌, Some, arith}
 use Rattle.std.proofs.lemmas.Int.{by_lt_z}
-use Rattle.std.proofs.lemmas.Bool.Decides.{nat_tests}
 use borrow.Author.Differences.{up, down}
-use Rattle.jiff_core.specs.Calendar.{day_count, days_from_civil, days_in_month, IsCivilDate, IsEpochDay, IsYear}
+use Rattle.jiff_core.specs.Calendar.{day_count, days_in_month, IsEpochDay, IsYear}
 use Rattle.jiff_core.specs.Date.{epoch_day}
 use Rattle.jiff_core.specs.declared.civil.date.Date.{Date as CivilDate}
 use Rattle.jiff_core.proofs.SignedLemmas.{signed_arith, back_small}
 use Rattle.jiff_core.proofs.MarchLemmas.{day_count-early}
 use Rattle.jiff_core.proofs.CalendarLemmas.{days_from_civil-day_count, day_count-next_year, day_count-next_month, day_count-day, day_count-lt_year}
 use Rattle.jiff_core.proofs.DateLemmas.{civil, epoch_day_range}
-use Rattle.op_time.specs.Calendar.{Date, month_length, days_before_year, days_before_month, day_number, date_of, epoch, past_last_day, plain, day_of_date}
+use Rattle.op_time.specs.Calendar.{month_length, days_before_year, days_before_month, day_number, date_of, epoch, past_last_day, plain, day_of_date}
 use Rattle.op_time.proofs.Days.{days_before_year-suc, days_before_month-next}
-use Rattle.op_time.proofs.Dates.{IsDateOf, date_of_is, date_unique, some_by_tests}
+use Rattle.op_time.proofs.Dates.{date_of_is, date_unique, some_by_tests}
 
 -- the days from the year -10000 to the year 0
 day_count-year_zero : day_count (pos 0) 1 1 ≡ 3652425

@@ -1,5 +1,5 @@
 -- Months by their number, 12 times the year plus the month less 1: a later one begins after the earlier one has ended.
-use Rattle.std.proofs.Common.{true, false, Bool, ◌≡◌, ◌≤◌, ◌<◌, ◌+◌, ◌-◌, ◌*◌, ◌/◌, ◌%◌, ℕ, zero, suc, cond, pos, refl, min, arith, nat_le, List, [], ◌∷◌, ◌⊎◌, inl, inr}
+use Rattle.std.proofs.Common.{◌≡◌, ◌≤◌, ◌<◌, ◌+◌, ◌-◌, ◌/◌, ◌%◌, ℕ, zero, suc, arith, inl, inr}
 use Rattle.std.proofs.lemmas.Bool.{cases_lt}
 use Rattle.op_time.specs.Calendar.{month_length, days_before_year, days_before_month}
 use Rattle.op_time.proofs.Days.{days_before_year-suc, days_before_month-next, days_before_month-december}

@@ -1,10 +1,10 @@
 -- A moment has one place among repeating intervals.
-use Rattle.std.proofs.Common.{true, false, Bool, ◌≡◌, ◌≤◌, ◌<◌, ◌+◌, ◌-◌, ◌*◌, ◌^◌, ◌&&◌, ℕ, zero, suc, cond, refl, sym, ◌∙◌, ap, min, arith, rules, ◌⊎◌, inl, inr, Some, None, Option, IsTrue, nat_lt, nat_le, if◌then◌else◌}
+use Rattle.std.proofs.Common.{true, false, Bool, ◌≡◌, ◌≤◌, ◌<◌, ◌+◌, ◌^◌, ◌&&◌, ℕ, zero, suc, refl, sym, ◌∙◌, ap, min, arith, inl, inr, Some, None, nat_lt, nat_le, if◌then◌else◌}
 use Rattle.std.specs.Option.{option_map_or}
-use Rattle.std.proofs.lemmas.Bool.{cases_lt, cases_order, cases_Bool, false≢true}
+use Rattle.std.proofs.lemmas.Bool.{cases_order, cases_Bool, false≢true}
 use Rattle.std.proofs.lemmas.Bool.Decides.{nat_tests}
 use Rattle.op_time.specs.Interval.{Interval, IsInterval}
-use Rattle.op_time.specs.Starts.{nominal_start, start_of, has_begun, is_counted, lies_in, last_begun, place_of, IsPlace, LiesOnce}
+use Rattle.op_time.specs.Starts.{nominal_start, has_begun, is_counted, lies_in, last_begun, place_of, IsPlace, LiesOnce}
 use Rattle.op_time.specs.declared.Place.{Place}
 use Rattle.op_time.specs.declared.Place.TheVariants.{Before, Inside, After}
 use Rattle.op_time.specs.declared.TheConstants.{LAST}

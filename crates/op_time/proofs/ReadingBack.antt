@@ -1,8 +1,8 @@
 -- A moment's printed text is read as that moment.
-use Rattle.std.proofs.Common.{◌≡◌, ◌≤◌, ◌<◌, ◌+◌, ◌-◌, ◌*◌, ◌/◌, ◌%◌, ◌&&◌, ◌++◌, ℕ, Bool, true, false, List, [], ◌∷◌, Some, None, Err, Option, ok_or, option_and_then, nat_le, if◌then◌else◌, codes, refl, sym, ap, ◌∙◌, arith}
+use Rattle.std.proofs.Common.{◌≡◌, ◌≤◌, ◌<◌, ◌+◌, ◌-◌, ◌*◌, ◌/◌, ◌%◌, ◌&&◌, ◌++◌, ℕ, Bool, true, List, [], ◌∷◌, Some, None, Err, Option, ok_or, option_and_then, nat_le, if◌then◌else◌, codes, refl, ap, ◌∙◌, arith}
 use Rattle.std.specs.Char.{is_ascii_digit, digit_value}
 use Rattle.std.proofs.lemmas.Bool.Decides.{nat_tests}
-use Rattle.op_time.specs.Calendar.{Date, date_of, day_number, day_of_date, month_length, epoch, day_milliseconds}
+use Rattle.op_time.specs.Calendar.{Date, date_of, day_of_date, month_length, epoch, day_milliseconds}
 use Rattle.op_time.specs.Moments.{moment_or_none}
 use Rattle.op_time.specs.declared.TheConstants.{LAST}
 use Rattle.op_time.specs.declared.moments.MomentFault.TheVariants.{Shape, Range}
@@ -10,8 +10,7 @@ use Rattle.op_time.proofs.Days.{month_length_bounds}
 use Rattle.op_time.proofs.Dates.{IsDateOf, date_of_is, year_of_day_small, some_by_tests}
 use Rattle.std.specs.Result.{result_ok}
 use Rattle.std.specs.Str.Parse.{digits_value}
-use Rattle.op_time.specs.MomentTexts.{moment_of, moment_in, moment_text, moment_at, date_text, time_text, digit, two, three, four, has_shape, clock_of, fraction_of, zone_of, day_in, time_in, offset_in, milliseconds_of, in_utc, moment_with}
-use Rattle.op_time.specs.Starts.{date_of_moment}
+use Rattle.op_time.specs.MomentTexts.{moment_of, moment_text, moment_at, date_text, time_text, digit, two, three, four, has_shape, clock_of, fraction_of, zone_of, day_in, time_in, offset_in, milliseconds_of, in_utc, moment_with}
 
 digit-is : (n : ℕ) → is_ascii_digit (digit n) ≡ true
 digit-is n = grind (arith, nat_tests)

@@ -1,15 +1,15 @@
 -- The starts of intervals rise, by a second at least.
-use Rattle.std.proofs.Common.{true, false, Bool, ◌≡◌, ◌≤◌, ◌<◌, ◌+◌, ◌-◌, ◌*◌, ◌/◌, ◌%◌, ◌^◌, ℕ, zero, suc, cond, refl, min, arith, rules, nat_le, ◌⊎◌, inl, inr, Some, None, Option, if◌then◌else◌}
-use Rattle.std.proofs.lemmas.Bool.{cases_lt, cases_order}
+use Rattle.std.proofs.Common.{◌≡◌, ◌≤◌, ◌<◌, ◌+◌, ◌-◌, ◌*◌, ◌/◌, ◌%◌, ℕ, zero, suc, refl, arith, nat_le, inl, inr, Some, None, if◌then◌else◌}
+use Rattle.std.proofs.lemmas.Bool.{cases_lt}
 use Rattle.std.proofs.lemmas.Bool.Decides.{nat_tests}
-use Rattle.op_time.specs.Calendar.{month_length, Date, day_number, date_of, months_later, epoch, past_last_day, day_milliseconds}
+use Rattle.op_time.specs.Calendar.{Date, day_number, date_of, months_later, epoch, past_last_day, day_milliseconds}
 use Rattle.op_time.specs.Interval.{Interval, IsInterval}
 use Rattle.op_time.specs.Moments.{moment_or_none}
-use Rattle.op_time.specs.Starts.{date_of_moment, nominal_start, start_of, has_begun, StartsRise}
+use Rattle.op_time.specs.Starts.{date_of_moment, nominal_start, start_of, StartsRise}
 use Rattle.op_time.specs.declared.TheConstants.{LAST}
 use Rattle.op_time.proofs.Days.{month_length_bounds}
 use Rattle.op_time.proofs.Dates.{IsDateOf, date_of_is}
-use Rattle.op_time.proofs.Months.{first_of_month, length_of_month, first_of_month-later}
+use Rattle.op_time.proofs.Months.{first_of_month-later}
 
 -- a later month's day comes later
 pub months_later-rises : (date : Date) (n l : ℕ) → 1 ≤ date.day → n < l → day_number (months_later date n) < day_number (months_later date l)

@@ -1,6 +1,5 @@
-use Rattle.std.proofs.Common.{◌≡◌, ℕ, ◌<◌, ◌≤◌, ◌∙◌, sym, ap, subst, arith}
+use Rattle.std.proofs.Common.{ℕ, ◌<◌, ◌≤◌, ◌∙◌, sym, ap, subst, arith}
 use Rattle.op_time.specs.Interval.{Interval, IsInterval}
-use Rattle.op_time.specs.Starts.{place_of}
 use Rattle.op_time.specs.declared.Place.TheVariants.{Before, Inside, After}
 use Rattle.op_time.proofs.Places.{lies_once, lies_in-last, in_none, true-le}
 use Rattle.op_time.proofs.Interval.index_at.Goals as goal

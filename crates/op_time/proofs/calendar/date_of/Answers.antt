@@ -1,4 +1,4 @@
-use Rattle.std.proofs.Common.{◌≡◌, ◌<◌, ◌^◌, pos, arith, w64}
+use Rattle.std.proofs.Common.{◌<◌, ◌^◌, pos, arith, w64}
 use Rattle.jiff_core.proofs.SignedLemmas.{back_small}
 use Rattle.op_time.proofs.Epoch.{year_of_epoch_day, plain-date_of}
 use Rattle.op_time.proofs.calendar.date_of.Goals as goal

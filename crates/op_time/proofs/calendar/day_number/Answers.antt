@@ -1,4 +1,4 @@
-use Rattle.std.proofs.Common.{◌≡◌, pos, arith, w32, refl}
+use Rattle.std.proofs.Common.{pos, arith, w32, refl}
 use Rattle.jiff_core.specs.Date.{epoch_day}
 use Rattle.jiff_core.proofs.SignedLemmas.{back_small}
 use Rattle.op_time.specs.Calendar.{day_number, plain}

@@ -1,4 +1,4 @@
-use Rattle.std.proofs.Common.{◌≡◌, ◌<◌, ◌∙◌, Some, ap, arith, w8, w16}
+use Rattle.std.proofs.Common.{◌∙◌, Some, ap, arith, w8, w16}
 use Rattle.std.proofs.lemmas.Int.{to_z_pos}
 use Rattle.op_time.proofs.Epoch.{day_of_date-civil}
 use Rattle.op_time.proofs.calendar.day_of.Goals as goal

@@ -1,4 +1,3 @@
-use Rattle.std.proofs.Common.{◌≡◌, true, take}
 use Rattle.std.specs.Char.{is_ascii_digit}
 use Rattle.op_time.proofs.Fitting.{list_all_in_front}
 use Rattle.op_time.proofs.digits.digits_of.Goals as goal

@@ -1,9 +1,7 @@
-use Rattle.std.proofs.Common.{◌≡◌, ℕ, ◌&&◌, ◌==◌, true, length, sym, ◌∙◌, ap, arith, rules, tests}
-use Rattle.std.specs.List.{list_all, zip}
-use Rattle.std.proofs.lemmas.Bool.Decides.{nat_tests}
+use Rattle.std.proofs.Common.{ℕ, sym, ◌∙◌, rules, tests}
 use Rattle.std.proofs.lemmas.Iterator.{YieldsList-from_slice, YieldsList-from_zip}
 use Rattle.std.proofs.lemmas.Iterator.Search.{all_from_yields_List}
-use Rattle.op_time.specs.Digits.{fits, fits_byte}
+use Rattle.op_time.specs.Digits.{fits_byte}
 use Rattle.op_time.proofs.Fitting.{fits_same_length}
 use Rattle.op_time.proofs.digits.fits.Goals as goal
 

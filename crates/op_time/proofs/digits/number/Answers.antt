@@ -1,5 +1,4 @@
-use Rattle.std.proofs.Common.{◌≡◌, ◌+◌, ◌-◌, ◌*◌, ◌<◌, ◌≤◌, ◌^◌, get_or, arith}
-use Rattle.std.specs.Char.{digit_value}
+use Rattle.std.proofs.Common.{arith}
 use Rattle.std.proofs.lemmas.Int.Digits.{digits_value_more}
 use Rattle.op_time.proofs.Fitting.{ten_to, ten_to-next, digit_at}
 use Rattle.op_time.proofs.digits.number.Goals as goal

@@ -1,4 +1,4 @@
-use Rattle.std.proofs.Common.{◌≡◌, sym}
+use Rattle.std.proofs.Common.{sym}
 use Rattle.op_time.proofs.Proper.{proper}
 use Rattle.op_time.proofs.intervals.interval_of_parts.Goals as goal
 

@@ -1,4 +1,4 @@
-use Rattle.std.proofs.Common.{◌≡◌, length, arith}
+use Rattle.std.proofs.Common.{length, arith}
 use Rattle.op_time.proofs.Fitting.{ten_to}
 use Rattle.op_time.proofs.intervals.part.Goals as goal
 

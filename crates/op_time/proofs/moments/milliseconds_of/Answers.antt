@@ -1,4 +1,4 @@
-use Rattle.std.proofs.Common.{◌≡◌, ◌≤◌, length, take, length-take, ℕ, arith}
+use Rattle.std.proofs.Common.{◌≤◌, length, take, length-take, ℕ, arith}
 use Rattle.op_time.proofs.Fitting.{three_places}
 use Rattle.op_time.proofs.moments.milliseconds_of.Goals as goal
 

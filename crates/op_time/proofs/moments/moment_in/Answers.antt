@@ -1,4 +1,4 @@
-use Rattle.std.proofs.Common.{◌≡◌, sym}
+use Rattle.std.proofs.Common.{sym}
 use Rattle.op_time.proofs.Shapes.{shape_has_zone}
 use Rattle.op_time.proofs.moments.moment_in.Goals as goal
 

@@ -1,5 +1,5 @@
-use Rattle.std.proofs.Common.{◌≡◌, List, ℕ, ◌+◌, ◌/◌, ◌%◌, ◌∷◌, [], ◌∙◌, ap, sym, subst, refl, unsigned_abs}
-use Rattle.op_time.specs.Calendar.{Date, date_of, plain, epoch, day_milliseconds}
+use Rattle.std.proofs.Common.{◌/◌, ◌%◌, ◌∙◌, ap, unsigned_abs}
+use Rattle.op_time.specs.Calendar.{plain, day_milliseconds}
 use Rattle.op_time.specs.MomentTexts.{moment_of, moment_text, digit}
 use Rattle.op_time.proofs.Epoch.{year_comes_back}
 use Rattle.op_time.proofs.ReadingBack.{stamp, bytes_of, moment_of-text}
