@@ -1,7 +1,7 @@
-use Rattle.std.proofs.Common.{◌≡◌, ◌+◌, ◌∷◌, ◌++◌, [], ◌∙◌, ℕ, List, length, take, inl, inr, sym, subst, arith, rules}
+use Rattle.std.proofs.Common.{◌++◌, ◌∙◌, ℕ, List, take, inl, sym, subst, arith, rules}
 use Rattle.std.proofs.lemmas.List.{append-nil}
 use Rattle.op_journal.specs.Frames.{Holds}
-use Rattle.op_journal.specs.Commits.{payload_of, payloads_of}
+use Rattle.op_journal.specs.Commits.{payloads_of}
 use Rattle.op_journal.proofs.Series.{during, after, begun, one_body}
 use Rattle.op_journal.proofs.commits.Journal.commit_each.Goals as goal
 
