@@ -1,13 +1,14 @@
 -- What bytes hold depends on what stands up to the gate.
-use Rattle.std.proofs.Common.{◌≡◌, ◌≢◌, ◌⊎◌, inl, inr, ℕ, zero, suc, ◌+◌, ◌-◌, ◌≤◌, ◌<◌, min, List, [], ◌∷◌, ◌++◌, length, get_or, take, drop, refl, sym, ◌∙◌, ap, subst, arith, append_assoc, length-append, length-drop, length-take, take-append-drop}
-use Rattle.std.proofs.lemmas.Bool.{cases_eq}
-use Rattle.std.proofs.lemmas.List.{take_at, drop_at, drop_more, length-take-le, take-take, drop-drop, get_or-take, get_or-drop, get_or-append_right, append-nil}
+use Rattle.std.proofs.Common.{◌≡◌, ◌≢◌, inl, inr, ℕ, zero, suc, ◌+◌, ◌-◌, ◌≤◌, ◌<◌, min, List, [], ◌∷◌, ◌++◌, length, get_or, take, drop, refl, sym, ◌∙◌, ap, subst, arith, append_assoc, length-append, length-drop, length-take, take-append-drop}
+use Rattle.std.proofs.lemmas.Bool.{cases_eq, cases_lt}
+use Rattle.std.proofs.lemmas.List.{take_at, drop_more, length-take-le, take-take, drop-drop, get_or-take, get_or-drop, get_or-append_right, append-nil}
 use Rattle.std.proofs.lemmas.List.Elements.{All-append}
 use Rattle.std.proofs.lemmas.Grind.{flat_map-append}
+use Rattle.std.proofs.lemmas.List.Concat.{flat_map-cons}
 use Rattle.std.proofs.Math.Seq.{take-add}
-use Rattle.std.specs.List.{All, flat_map}
+use Rattle.std.specs.List.{All}
 use Rattle.std.specs.Int.{w32, to_be_bytes}
-use Rattle.op_journal.specs.Frames.{Holds, SpellsUpTo, IsClosed, IsFrameAt, header, frame, frames, limit}
+use Rattle.op_journal.specs.Frames.{Holds, SpellsUpTo, Spells, IsClosed, IsFrameAt, header, frame, frames, limit}
 use Rattle.op_journal.specs.Commits.{IsBody, SpellsEither, payload_of}
 
 shorter_front : (n m : ℕ) (bytes x : List ℕ) → n ≤ m → take m x ≡ take m bytes → take n x ≡ take n bytes
@@ -142,3 +143,16 @@ one_read payloads place bytes payload holds found =
     ) in
     let left : 0 < length rest = omega (arith, length-drop (5 + length payload) (drop place bytes), length-drop place bytes, found.gate) in
     one_more payloads place bytes bytes payload rest holds refl split found.some left found.within
+
+-- nothing fits before the first gate
+nothing_short : (payloads : List (List ℕ)) (place : ℕ) (bytes : List ℕ) → Holds payloads place bytes → place ≤ 8 → payloads ≡ []
+nothing_short [] place bytes holds short = refl
+nothing_short (payload ∷ payloads) place bytes holds short =
+    let size = sym (length-take-le place bytes (omega (arith, holds.gate))) ∙ ap length holds.front in
+    absurd (omega (arith, short, size, ap length (flat_map-cons frame payload payloads), length-append (frame payload) (frames payloads)))
+
+pub spells_all : (payloads : List (List ℕ)) (place : ℕ) (bytes : List ℕ) → SpellsUpTo payloads place bytes → Spells payloads bytes
+spells_all payloads place bytes spells = elim (cases_lt 9 (length bytes)) [
+  | inl long ↦ inr (long, place, spells)
+  | inr short ↦ inl (short, nothing_short payloads place bytes spells.holds (omega (arith, short, spells.holds.gate)))
+]

@@ -1,11 +1,11 @@
 -- How a series of commits goes on by one.
-use Rattle.std.proofs.Common.{◌≡◌, ◌⊎◌, inl, inr, Vec, Global, get_or, ℕ, zero, suc, ◌+◌, ◌*◌, ◌≤◌, ◌<◌, List, [], ◌∷◌, ◌++◌, length, take, refl, sym, ◌∙◌, ap, subst, arith, append_assoc}
+use Rattle.std.proofs.Common.{◌≡◌, inl, inr, Vec, Global, get_or, ℕ, zero, suc, ◌+◌, ◌*◌, ◌≤◌, ◌<◌, List, [], ◌∷◌, ◌++◌, length, take, refl, sym, ◌∙◌, ap, subst, arith, append_assoc}
 use Rattle.std.proofs.lemmas.Bool.{cases_lt}
-use Rattle.std.proofs.lemmas.List.{append-nil, take_all}
+use Rattle.std.proofs.lemmas.List.{append-nil}
 use Rattle.op_disk.specs.Calls.{LeavesOnly}
 use Rattle.op_journal.specs.Frames.{Holds, SpellsUpTo}
 use Rattle.op_journal.specs.Commits.{IsSettled, SpellsEither, SpellsMore, payload_of, payloads_of}
-use Rattle.op_journal.proofs.Fronts.{same_spells}
+use Rattle.op_journal.proofs.Fronts.{same_spells, spells_all}
 
 module _ {D : Type 0} (moment : D → ℕ) (since : D → ℕ → List ℕ → Type 0)
     (first mid new : D) (payloads all : List (List ℕ)) (i tail : ℕ) (body : List ℕ)
@@ -14,14 +14,14 @@ module _ {D : Type 0} (moment : D → ℕ) (since : D → ℕ → List ℕ → T
     (any_moment : LeavesOnly moment since mid new (SpellsEither (payloads ++ take i all) tail body))
     (so_far : (k : ℕ) (c : List ℕ) → k ≤ i → since mid (moment first + 4 * k) c → SpellsMore payloads all k i c) where
   last : (c : List ℕ) (place : ℕ) → SpellsUpTo ((payloads ++ take i all) ++ payload_of body ∷ []) place c → (k : ℕ) → k ≤ i + 1 → SpellsMore payloads all k (i + 1) c
-  last c place spells k le = (i + 1, le, omega arith, place, subst (λ (l : List (List ℕ)). SpellsUpTo l place c) (sym more) spells)
+  last c place spells k le = (i + 1, le, omega arith, spells_all (payloads ++ take (i + 1) all) place c (subst (λ (l : List (List ℕ)). SpellsUpTo l place c) (sym more) spells))
 
   -- at every moment of the next commit
   pub during : (k : ℕ) (c : List ℕ) → k ≤ i → since new (moment first + 4 * k) c → SpellsMore payloads all k (i + 1) c
   during k c le left = elim (any_moment.before (moment first + 4 * k) c (omega (arith, le, calls)) left) [
-    | inl was ↦ let w = so_far k c le was in (w.0, w.1, omega (arith, w.2), w.3, w.4)
+    | inl was ↦ let w = so_far k c le was in (w.0, w.1, omega (arith, w.2), w.3)
     | inr here ↦ elim here [
-      | inl old ↦ (i, le, omega arith, tail, old)
+      | inl old ↦ (i, le, omega arith, spells_all (payloads ++ take i all) tail c old)
       | inr made ↦ last c (tail + length body) made k (omega (arith, le))
     ]
   ]
@@ -46,7 +46,8 @@ pub begun : {D : Type 0} (moment : D → ℕ) (since : D → ℕ → List ℕ �
 begun moment since seen images only_now first payloads all tail holds settled k c le left =
     let now : moment first + 4 * k ≡ moment first = omega (arith, le) in
     let image = only_now first c (subst (λ (t : ℕ). since first t c) now left) in
-    (0, le, omega arith, tail, subst (λ (l : List (List ℕ)). SpellsUpTo l tail c) (sym (append-nil payloads)) (same_spells payloads tail (seen first) c holds settled.closed.1 (settled.alike c image)))
+    let spells = same_spells payloads tail (seen first) c holds settled.closed.1 (settled.alike c image) in
+    (0, le, omega arith, spells_all (payloads ++ []) tail c (subst (λ (l : List (List ℕ)). SpellsUpTo l tail c) (sym (append-nil payloads)) spells))
 
 one_suc : (xs : List (Vec ℕ Global)) (i : ℕ) (d : Vec ℕ Global) → i < length xs → take (suc i) (payloads_of xs) ≡ take i (payloads_of xs) ++ payload_of (get_or xs i d).items ∷ []
 one_suc [] i d le = absurd (omega arith)

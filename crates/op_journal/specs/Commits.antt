@@ -2,7 +2,7 @@
 use Rattle.std.specs.Prelude.{◌≡◌, ◌⊎◌, ◌<◌, ◌≤◌, ◌+◌, ◌-◌, ℕ, List, [], ◌∷◌, ◌++◌, length, take, drop, map, Vec}
 use Rattle.std.specs.Int.{w32, to_be_bytes}
 use Rattle.std.specs.declared.alloc.Global.{Global}
-use Rattle.op_journal.specs.Frames.{IsClosed, SpellsUpTo}
+use Rattle.op_journal.specs.Frames.{IsClosed, SpellsUpTo, Spells}
 
 -- the payload of what a commit writes behind the gate
 abbrev pub payload_of : List ℕ → List ℕ
@@ -27,4 +27,4 @@ payloads_of bodies = map (λ body. payload_of body.items) bodies
 
 -- the frames before a series of commits and the first of the new ones, at least k of them and at most top
 abbrev pub SpellsMore : List (List ℕ) → List (List ℕ) → ℕ → ℕ → List ℕ → Type 0
-SpellsMore payloads new k top c = (n : ℕ) × (k ≤ n) × (n ≤ top) × (place : ℕ) × SpellsUpTo (payloads ++ take n new) place c
+SpellsMore payloads new k top c = (n : ℕ) × (k ≤ n) × (n ≤ top) × Spells (payloads ++ take n new) c

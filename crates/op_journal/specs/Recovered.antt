@@ -1,5 +1,5 @@
 -- What opening a journal does to a disk, and what a crash in it may leave.
-use Rattle.std.specs.Prelude.{◌≡◌, ◌≢◌, ◌⊎◌, ◌<◌, ◌≤◌, ℕ, List, [], ◌∷◌, ◌++◌, length, take}
+use Rattle.std.specs.Prelude.{◌≡◌, ◌⊎◌, ◌<◌, ◌≤◌, ℕ, List, [], ◌∷◌, ◌++◌, length, take}
 use Rattle.op_disk.specs.Calls.{Only}
 use Rattle.op_journal.specs.Frames.{header}
 

@@ -69,7 +69,7 @@ impl Journal {
         ensures committed { OnOk result ((self.old.closed ≡ false) × (self.new.closed ≡ false) × (self.new.tail ≡ self.old.tail + length body.now)) }
         ensures calls { OnOk result (D.moment disk.new ≡ D.moment disk.old + 4) }
         ensures at_most { D.moment disk.new ≤ D.moment disk.old + 4 }
-        ensures cause { OnOk result (D.faults disk.new ≡ D.faults disk.old) }
+        ensures cause { (IsErrOf result CommitFault.DiskFault → ⊥) → D.faults disk.new ≡ D.faults disk.old }
         ensures fault { IsErrOf result CommitFault.DiskFault → Rose (D.faults disk.old) (D.faults disk.new) × (self.old.closed ≡ false) × (self.new.closed ≡ true) × (self.new.tail ≡ self.old.tail) }
         ensures full { (tail need : ℕ) → IsErrOf result (CommitFault.Full tail need) → (self.old.closed ≡ false) × (tail ≡ self.old.tail) × (need ≡ length body.now + 1) × (limit < tail + need) × (disk.new ≡ disk.old) × (self.new ≡ self.old) }
         ensures full_where { self.old.closed ≡ false → limit < self.old.tail + (length body.now + 1) → IsErrOf result (CommitFault.Full self.old.tail (length body.now + 1)) }

@@ -76,8 +76,8 @@ impl Recovery {
         ensures any_moment { IsTrue D.tells → LeavesOnly D.moment D.since disk.old disk.new (IsOldOrShort (D.images disk.old) (D.seen disk.old)) }
         ensures synced { IsTrue D.tells → D.moment disk.old + 1 < D.moment disk.new → (c : List ℕ) → D.since disk.new (D.moment disk.old + 1) c → IsOldOrShort (λ d. d ≡ D.seen disk.old) (D.seen disk.old) c }
         ensures calls { IfOk result (λ r. IsTrue D.tells → D.moment disk.new ≡ (if nat_le (length (D.seen disk.old)) 9 then D.moment disk.old + 4 else D.moment disk.old + 3)) }
-        ensures past_sync { IfOk result (λ r. D.moment disk.old + 1 < D.moment disk.new) }
-        ensures cause { IfOk result (λ r. D.faults disk.new ≡ D.faults disk.old) }
+        ensures past_sync { (IsErrOf result JournalFault.DiskFault → ⊥) → D.moment disk.old + 1 < D.moment disk.new }
+        ensures cause { (IsErrOf result JournalFault.DiskFault → ⊥) → D.faults disk.new ≡ D.faults disk.old }
         ensures fault { IsErrOf result JournalFault.DiskFault → Rose (D.faults disk.old) (D.faults disk.new) }
         ensures refusals { IfErr result (λ e. (e ≡ JournalFault.DiskFault) ⊎ (e ≡ JournalFault.BadHeader)) }
     {
@@ -129,7 +129,7 @@ impl Recovery {
         ensures seen { D.seen disk.new ≡ D.seen disk.old }
         ensures found { IsTrue D.tells → IsFound self.new.length (D.seen disk.new) (D.images disk.new) }
         ensures any_moment { IsTrue D.tells → LeavesOnly D.moment D.since disk.old disk.new (λ c. c ≡ D.seen disk.old) }
-        ensures cause { IfOk result (λ _. D.faults disk.new ≡ D.faults disk.old) }
+        ensures cause { (IsErrOf result JournalFault.DiskFault → ⊥) → D.faults disk.new ≡ D.faults disk.old }
         ensures fault { IsErrOf result JournalFault.DiskFault → Rose (D.faults disk.old) (D.faults disk.new) }
         ensures refusals { IfErr result (λ e. e ≢ JournalFault.BadHeader) }
     {
@@ -180,7 +180,7 @@ fn read_range<D: Disk>(
     ensures seen { D.seen disk.new ≡ D.seen disk.old }
     ensures crash { NoMore (D.images disk.old) (D.images disk.new) }
     ensures any_moment { LeavesOnly D.moment D.since disk.old disk.new (D.images disk.old) }
-    ensures cause { IfOk result (λ _. D.faults disk.new ≡ D.faults disk.old) }
+    ensures cause { (IsErrOf result JournalFault.DiskFault → ⊥) → D.faults disk.new ≡ D.faults disk.old }
     ensures counted { D.faults disk.old ≤ D.faults disk.new }
     ensures fault { IsErrOf result JournalFault.DiskFault → Rose (D.faults disk.old) (D.faults disk.new) }
     ensures refusals { IfErr result (λ e. (e ≡ JournalFault.DiskFault) ⊎ (e ≡ JournalFault.Memory)) }

@@ -1,4 +1,4 @@
-use Rattle.std.proofs.Common.{◌≡◌, ◌+◌, ◌<◌, length, arith, ap, ◌∙◌}
+use Rattle.std.proofs.Common.{◌+◌, ◌<◌, length, arith, ◌∙◌}
 use Rattle.op_disk.proofs.Moments.{started, goes_on}
 use Rattle.op_journal.specs.Frames.{limit}
 use Rattle.op_journal.specs.Commits.{SpellsEither}

@@ -1,7 +1,7 @@
-use Rattle.std.proofs.Common.{◌≡◌, ◌+◌, ◌∷◌, ◌++◌, [], ◌∙◌, ℕ, List, length, take, inl, inr, sym, subst, arith, rules}
+use Rattle.std.proofs.Common.{◌++◌, ◌∙◌, ℕ, List, take, inl, sym, subst, arith, rules}
 use Rattle.std.proofs.lemmas.List.{append-nil}
 use Rattle.op_journal.specs.Frames.{Holds}
-use Rattle.op_journal.specs.Commits.{payload_of, payloads_of}
+use Rattle.op_journal.specs.Commits.{payloads_of}
 use Rattle.op_journal.proofs.Series.{during, after, begun, one_body}
 use Rattle.op_journal.proofs.commits.Journal.commit_each.Goals as goal
 
@@ -31,7 +31,7 @@ returns-in_err-commit-clause-each g c told closed payloads holds =
       omega (arith, inv.calls, c.commit.ensures.at_most),
       λ k x le left.
           let w = during g.D.Disk.moment g.D.Disk.since c.args.disk.now c.loop-body.disk c.commit.new.disk payloads all i c.loop-body.self.tail c.deref.result.now inv.calls more any (inv.each told closed payloads holds) k x le left in
-          (w.0, w.1, omega (arith, w.2, c.loop-body-test.true), w.3, w.4),
+          (w.0, w.1, omega (arith, w.2, c.loop-body-test.true), w.3),
     )
 
 pub loop-body-preserved : goal.loop-body-preserved
@@ -44,7 +44,7 @@ loop-body-preserved g c =
     record {
       closed = e.committed.1 ∙ sym e.committed.0 ∙ inv.closed;
       first = inl (sym inv.closed ∙ e.committed.0);
-      faults = e.cause ∙ inv.faults;
+      faults = e.cause (λ bad. cc) ∙ inv.faults;
       calls = omega (arith, inv.calls, e.calls);
       settled = λ told closed. e.settled told;
       holds = λ told payloads holds.

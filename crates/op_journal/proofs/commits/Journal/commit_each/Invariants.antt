@@ -1,4 +1,4 @@
-use Rattle.std.proofs.Common.{◌≡◌, ◌⊎◌, ◌+◌, ◌*◌, ◌≤◌, ◌++◌, ℕ, List, length, take, IsTrue, false}
+use Rattle.std.proofs.Common.{◌≡◌, ◌⊎◌, ◌+◌, ◌*◌, ◌≤◌, ◌++◌, ℕ, List, take, IsTrue, false}
 use Rattle.op_journal.specs.Frames.{Holds}
 use Rattle.op_journal.specs.Commits.{IsSettled, SpellsMore, payloads_of}
 use Rattle.op_journal.proofs.commits.Journal.commit_each.Given as goal

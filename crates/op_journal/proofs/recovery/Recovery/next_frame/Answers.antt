@@ -1,4 +1,4 @@
-use Rattle.std.proofs.Common.{◌≡◌, ◌∙◌, ℕ, ◌+◌, ◌≤◌, ◌<◌, min, List, [], ◌∷◌, ◌++◌, length, get_or, take, drop, ap, sym, subst, arith, rules}
+use Rattle.std.proofs.Common.{◌≡◌, ◌∙◌, ℕ, ◌+◌, ◌≤◌, ◌<◌, min, List, [], ◌∷◌, ◌++◌, length, take, drop, ap, sym, subst, arith, rules}
 use Rattle.op_journal.specs.Frames.{Holds, limit}
 use Rattle.op_journal.proofs.Fronts.{frame_found, one_read}
 use Rattle.op_journal.proofs.recovery.Recovery.next_frame.Goals as goal
