@@ -1,5 +1,5 @@
 //! The plain wallet: its history, and what a request is replied on it.
-ghost use Rattle.std.specs.Prelude.{◌≡◌, [], IsTrue};
+ghost use Rattle.std.specs.Prelude.{◌≡◌, [], IsTrue, codes};
 ghost use Rattle.std.specs.List.{list_any};
 ghost use Rattle.op_model.specs.History.{last_moment};
 ghost use Rattle.op_model.specs.Printed.{is_built};
@@ -63,6 +63,16 @@ fn last_moment(entries: &[Entry]) -> Moment
     }
 }
 
+/// The origin of a wallet for which none was set.
+fn unset_origin() -> Origin
+    ensures { result ≡ codes "https://wallet.example" }
+{
+    match Origin::from_bytes(b"https://wallet.example") {
+        Some(origin) => origin,
+        None => unreachable!(),
+    }
+}
+
 impl Wallet {
     /// A wallet to which nothing has happened.
     pub fn new(alloc: Global) -> Wallet
@@ -70,7 +80,7 @@ impl Wallet {
     {
         Wallet {
             entries: Vec::new(alloc),
-            origin: Origin::unset(),
+            origin: unset_origin(),
         }
     }
 
