@@ -6,13 +6,9 @@ use Rattle.op_model.specs.Printed.{is_built}
 use Rattle.op_model.specs.declared.reply.ReplyBody.TheVariants.{Refused}
 use Rattle.op_model.specs.declared.reply.Refusal.TheVariants.{BadField}
 
-held_by : {A : Type 0} (b : Bool) (x : A) → is_some (cond b (Some x) None) ≡ true → b ≡ true
-held_by true x e = refl
-held_by false x e = absurd cc
-
 pub is_text : (name : List ℕ) → IsTrue (is_built (Refused (BadField name))) → IsUtf8 name
-is_text name h = IsUtf8-from_is_utf8 name (held_by (is_utf8 name) _ h)
+is_text name h = IsUtf8-from_is_utf8 name h
 
 -- a text has a printed form
 pub is_printable : (name : List ℕ) → IsUtf8 name → IsTrue (is_built (Refused (BadField name)))
-is_printable name u = rw (is_utf8-from_IsUtf8 name u) refl
+is_printable name u = is_utf8-from_IsUtf8 name u

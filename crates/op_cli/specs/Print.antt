@@ -1,5 +1,5 @@
 -- What the parts of the printer answer.
-use Rattle.std.specs.Prelude.{◌≡◌, false, Some, None}
+use Rattle.std.specs.Prelude.{◌≡◌, false, Some, None, MatchOption}
 use Rattle.std.specs.declared.option.Option.{Option}
 use Rattle.op_model.specs.Printed as model
 use Rattle.op_cli.specs.declared.print.Form.{Form}
@@ -13,7 +13,13 @@ pub record IsPlain (what : Data) (value : Value) : Type 0 where
   pub is : view value ≡ what
   pub plain : has_float what ≡ false
 
--- it is what the model says, which is there
-abbrev pub IsSaid : Option model.Said → Form → Type 0
-IsSaid None what = ⊥
-IsSaid (Some said) what = (what.status.now ≡ said.status) × IsPlain said.body what.body
+-- it is what the model says: a status and a body, and no field beside those of every reply
+pub record IsSaid (said : model.Said) (what : Form) : Type 0 where
+  pub status : what.status.now ≡ said.status
+  pub allow : said.allow ≡ None
+  pub challenge : said.challenge ≡ None
+  pub body : MatchOption said.body ⊥ (λ d. IsPlain d what.body)
+
+abbrev pub IsSaidOf : Option model.Said → Form → Type 0
+IsSaidOf None what = ⊥
+IsSaidOf (Some said) what = IsSaid said what

@@ -1,9 +1,9 @@
 //! Replies as bytes.
-ghost use Rattle.std.specs.Prelude.{◌≡◌, IfOk, IsTrue};
-ghost use Rattle.serde_json.specs.Data.{no_members};
+ghost use Rattle.std.specs.Prelude.{◌≡◌, ℕ, List, IfOk, IsTrue, Some, None};
 ghost use Rattle.serde_json.specs.View.{view};
-ghost use Rattle.op_model.specs.Printed.{printed, said, refusal_said, is_built, message, asset_data, error_body, coded, at_then, named};
-ghost use Rattle.op_cli.specs.Print.{IsSaid, IsPlain};
+ghost use Rattle.op_model.specs.Bodies.{asset_added_data};
+ghost use Rattle.op_model.specs.Printed.{printed, said, refusal_said, is_built, message, error, error_at, error_name};
+ghost use Rattle.op_cli.specs.Print.{IsSaid, IsSaidOf, IsPlain};
 
 use op_amount::Asset;
 use op_model::{Refusal, Reply, ReplyBody, Text};
@@ -19,29 +19,29 @@ pub struct Form {
 }
 
 /// `{"error":{"code":..}}`
-fn error(alloc: Global, code: &str) -> Result<Value, AllocError>
-    ensures { IfOk result (IsPlain (error_body (coded code.now no_members))) }
+fn coded_error(alloc: Global, code: &str) -> Result<Value, AllocError>
+    ensures { IfOk result (IsPlain (error code.now)) }
 {
     json!(in alloc; {"error": {"code": code}})
 }
 
 /// `{"error":{"at":..,"code":..}}`
-fn error_at(alloc: Global, code: &str, at: u64) -> Result<Value, AllocError>
-    ensures { IfOk result (IsPlain (error_body (at_then at (coded code.now no_members)))) }
+fn coded_error_at(alloc: Global, code: &str, at: u64) -> Result<Value, AllocError>
+    ensures { IfOk result (IsPlain (error_at code.now at)) }
 {
     json!(in alloc; {"error": {"at": at, "code": code}})
 }
 
 /// `{"error":{"code":..,"name":..}}`
-fn error_name(alloc: Global, code: &str, name: &str) -> Result<Value, AllocError>
-    ensures { IfOk result (IsPlain (error_body (coded code.now (named name.now)))) }
+fn coded_error_name(alloc: Global, code: &str, name: &str) -> Result<Value, AllocError>
+    ensures { IfOk result (IsPlain (error_name code.now name.now)) }
 {
     json!(in alloc; {"error": {"code": code, "name": name}})
 }
 
 /// `{"assetCode":..,"assetScale":..,"pieces":..}`
 fn asset(alloc: Global, asset: &Asset, pieces: u8) -> Result<Value, AllocError>
-    ensures { IfOk result (IsPlain (asset_data asset.now pieces)) }
+    ensures { IfOk result (IsPlain (asset_added_data asset.now pieces)) }
 {
     let code = asset.code.as_str();
     json!(in alloc; {"assetCode": code, "assetScale": asset.scale, "pieces": pieces})
@@ -61,28 +61,28 @@ fn name_of(name: &Text) -> &str
 /// What a refusal says.
 fn refusal_said(alloc: Global, refusal: &Refusal) -> Result<Form, AllocError>
     requires { IsTrue (is_built (ReplyBody.Refused refusal.now)) }
-    ensures { IfOk result (IsSaid (refusal_said refusal.now)) }
+    ensures { IfOk result (λ form. (origin : List ℕ) → IsSaid (refusal_said origin refusal.now) form) }
 {
     match refusal {
         Refusal::BadHttp { at } => Ok(Form {
             status: "400 Bad Request",
-            body: error_at(alloc, "bad_http", *at)?,
+            body: coded_error_at(alloc, "bad_http", *at)?,
         }),
         Refusal::BadJson => Ok(Form {
             status: "400 Bad Request",
-            body: error(alloc, "bad_json")?,
+            body: coded_error(alloc, "bad_json")?,
         }),
         Refusal::BadField { name } => Ok(Form {
             status: "400 Bad Request",
-            body: error_name(alloc, "bad_field", name_of(name))?,
+            body: coded_error_name(alloc, "bad_field", name_of(name))?,
         }),
         Refusal::AlreadyExists => Ok(Form {
             status: "409 Conflict",
-            body: error(alloc, "already_exists")?,
+            body: coded_error(alloc, "already_exists")?,
         }),
         Refusal::Memory => Ok(Form {
             status: "500 Internal Server Error",
-            body: error(alloc, "out_of_memory")?,
+            body: coded_error(alloc, "out_of_memory")?,
         }),
         _ => unreachable!(),
     }
@@ -91,7 +91,7 @@ fn refusal_said(alloc: Global, refusal: &Refusal) -> Result<Form, AllocError>
 /// What a reply says.
 fn said(alloc: Global, body: &ReplyBody) -> Result<Form, AllocError>
     requires { IsTrue (is_built body.now) }
-    ensures { IfOk result (IsSaid (said body.now)) }
+    ensures { IfOk result (λ form. (origin : List ℕ) → IsSaidOf (said origin body.now) form) }
 {
     match body {
         ReplyBody::AssetAdded {
@@ -108,7 +108,7 @@ fn said(alloc: Global, body: &ReplyBody) -> Result<Form, AllocError>
 
 /// A head, and a body behind it.
 fn message(alloc: Global, status: &str, body: &[u8]) -> Result<Vec<u8>, AllocError>
-    ensures { IfOk result (λ text. text.items ≡ message status.now body.now) }
+    ensures { IfOk result (λ text. text.items ≡ message status.now None None (Some body.now)) }
 {
     let length = body.len();
     let head = format!(in alloc;

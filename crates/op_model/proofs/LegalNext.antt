@@ -19,6 +19,7 @@ pub legal-front : (xs ys : List Entry) → IsLegal (xs ++ ys) → IsLegal xs
 legal-front xs ys legal = (legal_from-split [] xs ys legal).0
 
 pub legal-next : (history : List Entry) (e : Entry) → IsLegal (history ++ e ∷ []) ↔ (IsLegal history × IsNext history e)
-legal-next history e =
-    (λ legal. ((legal_from-split [] history (e ∷ []) legal).0, (legal_from-split [] history (e ∷ []) legal).1.0),
-     λ both. legal_from-joined [] history (e ∷ []) both.0 (both.1, tt))
+legal-next history e = (
+  λ legal. ((legal_from-split [] history (e ∷ []) legal).0, (legal_from-split [] history (e ∷ []) legal).1.0),
+  λ both. legal_from-joined [] history (e ∷ []) both.0 (both.1, tt),
+)

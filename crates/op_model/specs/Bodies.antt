@@ -307,8 +307,8 @@ outgoing_list_data origin rows has_previous has_next =
 abbrev pub event_data : List ℕ → FeedEvent → Data
 event_data origin event = object (
     member (codes "amountSent") (object (
-        member (codes "currency") (string event.sent.asset.code) (
-        member (codes "value") (string (scaled event.sent.value event.sent.asset.scale)) no_members))) (
+    member (codes "currency") (string event.sent.asset.code) (
+    member (codes "value") (string (scaled event.sent.value event.sent.asset.scale)) no_members))) (
     member (codes "incomingPayment") (string (incoming_url origin event.incoming)) (
     member (codes "paymentPointer") (string (address_url origin event.payee)) no_members)))
 
