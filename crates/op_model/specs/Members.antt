@@ -1,0 +1,143 @@
+-- What the members of bodies and the parameters of queries mean, a request for each route that has some. The first that is
+-- missing or breaks its form is named, in the order in which they are read. Members and types are those of Open Payments
+-- (amount, incoming payment, quote, outgoing payment) and RFC 9635, section 2 (a grant request).
+use Rattle.std.specs.Prelude.{◌≡◌, ℕ, ◌+◌, ◌==◌, Bool, true, false, not, ◌&&◌, ◌||◌, nat_le, nat_lt, if◌then◌else◌, List, [], ◌∷◌, length, map, codes, bit_or, fold, Some, None, Ok, Err, option_map, option_and_then, ok_or}
+use Rattle.std.specs.List.{list_all, list_any, find}
+use Rattle.std.specs.Option.{option_map_or, is_some, is_none}
+use Rattle.std.specs.Result.{result_ok}
+use Rattle.std.specs.Str.{bytes_eq}
+use Rattle.std.specs.declared.option.Option.{Option}
+use Rattle.std.specs.declared.result.Result.{Result}
+use Rattle.op_amount.specs.Values.{value_of}
+use Rattle.op_amount.specs.declared.Amount.{Amount}
+use Rattle.op_amount.specs.declared.Asset.{Asset}
+use Rattle.op_amount.specs.declared.TheConstants.{RATE_TOP}
+use Rattle.op_names.specs.Forms.{is_origin, is_path, is_word, is_client, is_finish_uri}
+use Rattle.op_names.specs.Names.{address_in, row_in}
+use Rattle.op_names.specs.declared.AddressName.{AddressName}
+use Rattle.op_names.specs.declared.Kind.TheVariants as kinds
+use Rattle.op_time.specs.MomentTexts.{moment_of}
+use Rattle.op_time.specs.Texts.{interval_of}
+use Rattle.op_model.specs.Asking.{◌>>=◌, refuse_if}
+use Rattle.op_model.specs.Legal.{is_text}
+use Rattle.op_model.specs.Meant.{text_in, number_in, optional_in, if_code, code_in, scale_in}
+use Rattle.op_model.specs.Metadata.{is_metadata}
+use Rattle.op_model.specs.declared.reply.Refusal.{Refusal}
+use Rattle.op_model.specs.declared.reply.Refusal.TheVariants.{BadField, InvalidRequest}
+use Rattle.op_model.specs.declared.request.AccountName.{AccountName}
+use Rattle.op_model.specs.declared.request.AccountName.TheVariants as accounts
+use Rattle.op_model.specs.declared.request.QuoteAsked.{QuoteAsked}
+use Rattle.op_model.specs.declared.request.QuoteAsked.TheVariants as asked
+use Rattle.op_model.specs.declared.request.Request.{Request}
+use Rattle.op_model.specs.declared.request.Request.TheVariants as requests
+use Rattle.serde_json.specs.Data.{Data}
+use Rattle.serde_json.specs.Find.{get, as_object, as_str}
+use Rattle.serde_json.specs.Written.{compact_text}
+
+-- ---- values
+
+-- a text that passes a test
+abbrev pub text_if : (List ℕ → Bool) → List ℕ → Data → Option (List ℕ)
+text_if test name d = option_and_then (λ text. if test text then Some text else None) (text_in name d)
+
+-- an asset: `assetCode` and `assetScale`
+abbrev pub asset_of : Data → Option Asset
+asset_of d = option_and_then (λ code. option_map (λ scale. record { code = code; scale = scale }) (scale_in d)) (code_in d)
+
+-- an amount: an asset, and a text of digits up to the largest value
+abbrev pub amount_of : Data → Option Amount
+amount_of d =
+    option_and_then (λ asset. option_map (λ value. record { value = value; asset = asset }) (option_and_then (λ text. result_ok (value_of text)) (text_in (codes "value") d))) (asset_of d)
+
+-- a member of this form
+abbrev pub member_of : {X : Type 0} → (Data → Option X) → List ℕ → Data → Option X
+member_of form name d = option_and_then form (get name d)
+
+-- an optional member: absent, or of this form; the outer option says whether it may stand
+abbrev pub optional_of : {X : Type 0} → (Data → Option X) → List ℕ → Data → Option (Option X)
+optional_of form name d = option_map_or (λ value. option_map (λ x. Some x) (form value)) (optional_in name d) (Some None)
+
+-- a text of digits without a leading zero, from 1 to the largest number of a rate
+abbrev pub rate_number : List ℕ → Option ℕ
+rate_number text = option_and_then (λ n. if nat_le 1 n && nat_le n RATE_TOP then Some n else None) (result_ok (value_of text))
+
+-- metadata, by its printed form
+abbrev pub metadata_of : Data → Option (List ℕ)
+metadata_of d = if is_metadata (compact_text d) then Some (compact_text d) else None
+
+-- what a text names as an account: an address may name nothing
+abbrev pub account_of : List ℕ → AccountName
+account_of text =
+    if bytes_eq text (codes "pool") then accounts.Pool
+    else (if bytes_eq text (codes "fees") then accounts.Fees else accounts.Address (address_in text))
+
+-- the value, or the refusal that names the member
+abbrev pub or_bad : {X : Type 0} → List ℕ → Option X → Result X Refusal
+or_bad name value = ok_or value (BadField name)
+
+-- ---- the provider's routes
+
+abbrev pub origin_asked : Data → Result Request Refusal
+origin_asked d = do
+  origin ← or_bad (codes "origin") (text_if is_origin (codes "origin") d)
+  Ok (requests.SetOrigin origin)
+
+abbrev pub address_asked : Data → Result Request Refusal
+address_asked d = do
+  path ← or_bad (codes "path") (text_if is_path (codes "path") d)
+  code ← or_bad (codes "assetCode") (code_in d)
+  scale ← or_bad (codes "assetScale") (scale_in d)
+  name ← or_bad (codes "publicName") (optional_of (λ v. option_and_then (λ text. if is_text 128 text then Some text else None) (as_str v)) (codes "publicName") d)
+  Ok (requests.AddAddress path (record { code = code; scale = scale }) name)
+
+abbrev pub transfer_asked : (List ℕ → AccountName → Amount → Request) → Data → Result Request Refusal
+transfer_asked request d = do
+  transfer ← or_bad (codes "transferId") (text_if (is_word 64) (codes "transferId") d)
+  account ← or_bad (codes "account") (text_in (codes "account") d)
+  amount ← or_bad (codes "amount") (member_of amount_of (codes "amount") d)
+  Ok (request transfer (account_of account) amount)
+
+abbrev pub rate_asked : Data → Result Request Refusal
+rate_asked d = do
+  source ← or_bad (codes "from") (member_of asset_of (codes "from") d)
+  target ← or_bad (codes "to") (member_of asset_of (codes "to") d)
+  num ← or_bad (codes "num") (option_and_then rate_number (text_in (codes "num") d))
+  den ← or_bad (codes "den") (option_and_then rate_number (text_in (codes "den") d))
+  Ok (requests.SetRate source target (record { num = num; den = den }))
+
+-- ---- incoming payments, quotes, outgoing payments
+
+abbrev pub moment_text_of : Data → Option ℕ
+moment_text_of d = option_and_then moment_of (as_str d)
+
+abbrev pub incoming_asked : Data → Result Request Refusal
+incoming_asked d = do
+  address ← or_bad (codes "walletAddress") (text_in (codes "walletAddress") d)
+  amount ← or_bad (codes "incomingAmount") (optional_of amount_of (codes "incomingAmount") d)
+  expiry ← or_bad (codes "expiresAt") (optional_of moment_text_of (codes "expiresAt") d)
+  metadata ← or_bad (codes "metadata") (optional_of metadata_of (codes "metadata") d)
+  Ok (requests.MakeIncoming (address_in address) amount expiry metadata)
+
+-- one of the two amounts, or neither
+abbrev pub quote_mode : Option Amount → Option Amount → Option QuoteAsked
+quote_mode None None = Some asked.Rest
+quote_mode (Some debit) None = Some (asked.Debit debit)
+quote_mode None (Some receive) = Some (asked.Receive receive)
+quote_mode (Some debit) (Some receive) = None
+
+abbrev pub quote_asked : Data → Result Request Refusal
+quote_asked d = do
+  address ← or_bad (codes "walletAddress") (text_in (codes "walletAddress") d)
+  receiver ← or_bad (codes "receiver") (text_in (codes "receiver") d)
+  _ ← or_bad (codes "method") (text_if (bytes_eq (codes "ilp")) (codes "method") d)
+  debit ← or_bad (codes "debitAmount") (optional_of amount_of (codes "debitAmount") d)
+  receive ← or_bad (codes "receiveAmount") (optional_of amount_of (codes "receiveAmount") d)
+  mode ← or_bad (codes "receiveAmount") (quote_mode debit receive)
+  Ok (requests.MakeQuote (address_in address) (row_in kinds.Incoming receiver) mode)
+
+abbrev pub outgoing_asked : Data → Result Request Refusal
+outgoing_asked d = do
+  address ← or_bad (codes "walletAddress") (text_in (codes "walletAddress") d)
+  quote ← or_bad (codes "quoteId") (text_in (codes "quoteId") d)
+  metadata ← or_bad (codes "metadata") (optional_of metadata_of (codes "metadata") d)
+  Ok (requests.MakeOutgoing (address_in address) (row_in kinds.Quote quote) metadata)
