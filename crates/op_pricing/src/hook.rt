@@ -28,7 +28,9 @@ pub struct PriceHook<F> {
 
 impl<F: FeeRule> PriceHook<F> {
     /// Keeps a rule.
-    pub fn keep(rule: F) -> PriceHook<F> {
+    pub fn keep(rule: F) -> PriceHook<F>
+        ensures { result.rule ≡ rule }
+    {
         PriceHook { rule }
     }
 
