@@ -1,0 +1,7 @@
+pub mod Replaced
+pub mod AccountTests
+pub mod Index
+pub mod Puts
+pub mod Soundness
+pub mod Moves
+pub mod Transfers

@@ -1,0 +1,11 @@
+//! A ledger of accounts on which value is posted, and held before it is posted. All values are smallest units of an
+//! account's asset.
+#![tactic(auto)]
+
+mod book;
+mod indexed;
+mod places;
+mod values;
+
+pub use book::Ledger;
+pub use values::{Balance, LedgerFault, Piece};
