@@ -66,7 +66,7 @@ put_keeps_step false y b e = refl
 pub put_keeps : (y b : Balance) → (put_at y b).account ≡ b.account
 put_keeps y b = put_keeps_step (is_same_account b.account y.account) y b refl
 
-there_is : {X : Type 0} (o : Option X) → is_some o ≡ true → (x : X) × (o ≡ Some x)
+pub there_is : {X : Type 0} (o : Option X) → is_some o ≡ true → (x : X) × (o ≡ Some x)
 there_is None h = absurd (let e : false ≡ true = h in cc)
 there_is (Some x) h = (x, refl)
 

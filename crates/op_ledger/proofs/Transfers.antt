@@ -17,7 +17,7 @@ use Rattle.op_ledger.specs.Sound.{inside, inside_part, IsSound}
 use Rattle.op_ledger.specs.Pieces.{within_legs, between_legs}
 use Rattle.op_ledger.proofs.Replaced.{map_same}
 use Rattle.op_ledger.proofs.AccountTests.{account_is, is_account, is_same_account-sym}
-use Rattle.op_ledger.proofs.Index.{found_account, find_balance-map, there_is}
+use Rattle.op_ledger.proofs.Index.{found_account, find_balance-map, put_keeps, there_is}
 use Rattle.op_ledger.proofs.Puts.{ledger, find_balance-put, inside-put, part_inside, posted_inside}
 use Rattle.op_ledger.proofs.Soundness.{sound_between, covered_inside, numbered_of}
 use Rattle.op_ledger.proofs.Moves.{same_found, moved_inside, moved_account, moved-append, IsCovered}
@@ -218,3 +218,54 @@ between_is v source target piece distinct there le =
       (λ e.
         omega (arith, went-goes piece.fee p (comes piece.fee (Fees source) ∷ goes piece.sent p ∷ rest) e, went-comes piece.fee (Fees source) (goes piece.sent p ∷ rest) e, went-goes piece.sent p rest e,
           went-goes (piece.sent + piece.fee) p (comes piece.fee (Fees source) ∷ rest) e, went-comes piece.fee (Fees source) rest e, added (is_same_account p e) piece.sent piece.fee))
+
+-- ---- the two balances of a transfer
+
+found_step : (f : Balance → ℕ) (t : Bool) (y x : Balance) (a : Account) (xs : List Balance) → is_same_account y.account a ≡ t → find_balance xs y.account ≡ Some x → f y ≡ f x → option_map_or f (cond t (Some y) (find_balance xs a)) 0 ≡ option_map_or f (find_balance xs a) 0
+found_step f true y x a xs e found same =
+    let here : find_balance xs a ≡ Some x = subst (λ c. find_balance xs c ≡ Some x) (account_is y.account a e) found in
+    same ∙ sym (ap (λ o. option_map_or f o 0) here)
+found_step f false y x a xs e found same = refl
+
+field-put : (f : Balance → ℕ) (y x : Balance) (xs : List Balance) (a : Account) → find_balance xs y.account ≡ Some x → f y ≡ f x → option_map_or f (find_balance (put y xs) a) 0 ≡ option_map_or f (find_balance xs a) 0
+field-put f y x xs a found same =
+    ap (λ o. option_map_or f o 0) (find_balance-put y x xs a found) ∙ found_step f (is_same_account y.account a) y x a xs refl found same
+
+pub there-put : (y : Balance) (xs : List Balance) (a : Account) → is_some (find_balance (put y xs) a) ≡ is_some (find_balance xs a)
+there-put y xs a = ap is_some (find_balance-map (put_at y) (put_keeps y) xs a) ∙ some-map (put_at y) (find_balance xs a)
+
+number_same : (n : ℕ) → (n == n) ≡ true
+number_same n = grind (arith, nat_tests)
+
+module _ (v : LedgerValue) (a c : Account) (n : ℕ) (x w : Balance) (sound : IsSound v) (found : balance_of v a ≡ Some x) (a_inside : is_outside a ≡ false) (w_found : find_balance (put (record x { posted = x.posted - n }) v.accounts) c ≡ Some w) (c_inside : is_outside c ≡ false) (one_asset : asset_in v a ≡ asset_in v c) (enough : n ≤ x.posted - x.held) where
+  target_asset : w.asset ≡ x.asset
+  target_asset =
+      let x_found : balance_of v x.account ≡ Some x = subst (λ e. balance_of v e ≡ Some x) (sym (found_account v.accounts a x found)) found in
+      ap (λ o. option_map_or (λ b. b.asset) o 0) (sym w_found)
+      ∙ field-put (λ b. b.asset) (record x { posted = x.posted - n }) x v.accounts c x_found refl
+      ∙ sym one_asset
+      ∙ ap (λ o. option_map_or (λ b. b.asset) o 0) found
+
+  pub transfer_fits : w.posted + n ≤ TOP
+  transfer_fits =
+      let xs = v.accounts in
+      let y : Balance = record x { posted = x.posted - n } in
+      let at : x.account ≡ a = found_account xs a x found in
+      let x_found : balance_of v x.account ≡ Some x = subst (λ e. balance_of v e ≡ Some x) (sym at) found in
+      let x_inside : is_outside x.account ≡ false = ap is_outside at ∙ a_inside in
+      let w_inside : is_outside w.account ≡ false = ap is_outside (found_account (put y xs) c w w_found) ∙ c_inside in
+      let part_x : inside_part x.asset x ≡ x.posted = part_inside x.asset x x_inside ∙ ap (λ t. cond t x.posted 0) (number_same x.asset) in
+      let part_y : inside_part x.asset y ≡ x.posted - n = part_inside x.asset y x_inside ∙ ap (λ t. cond t (x.posted - n) 0) (number_same x.asset) in
+      let le : w.posted ≤ inside (ledger (put y xs)) x.asset = subst (λ q. w.posted ≤ inside (ledger (put y xs)) q) target_asset (posted_inside (put y xs) c w w_found w_inside) in
+      omega (arith, le, inside-put y x xs x.asset sound.distinct x_found, part_x, part_y, sound.balanced x.asset, sound.at_most_top x.asset, enough)
+
+  pub sound_transfer : IsSound (ledger (put (record w { posted = w.posted + n }) (put (record x { posted = x.posted - n }) v.accounts)))
+  sound_transfer =
+      let xs = v.accounts in
+      let y : Balance = record x { posted = x.posted - n } in
+      let at : x.account ≡ a = found_account xs a x found in
+      let at_w : w.account ≡ c = found_account (put y xs) c w w_found in
+      let x_found : balance_of v x.account ≡ Some x = subst (λ e. balance_of v e ≡ Some x) (sym at) found in
+      let w_there : find_balance (put y xs) w.account ≡ Some w = subst (λ e. find_balance (put y xs) e ≡ Some w) (sym at_w) w_found in
+      let held : x.held ≤ x.posted = covered_inside v a x sound found a_inside in
+      sound_between v x w (x.posted - n) (w.posted + n) sound x_found (ap is_outside at ∙ a_inside) w_there (ap is_outside at_w ∙ c_inside) target_asset (omega (arith, held, enough)) (omega arith) (omega (arith, held, enough))

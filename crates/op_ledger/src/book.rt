@@ -1,6 +1,6 @@
 //! The ledger.
 
-ghost use Rattle.std.specs.Prelude.{◌≡◌, ◌+◌, ◌-◌, ◌<◌, ◌≤◌, ◌↔◌, [], ◌∷◌, ◌++◌, IsTrue, IsErr, OnOk, OnErr, IfErr, not, ◌&&◌, Some};
+ghost use Rattle.std.specs.Prelude.{◌≡◌, ◌≢◌, ◌+◌, ◌-◌, ◌<◌, ◌≤◌, ◌↔◌, [], ◌∷◌, ◌++◌, IsTrue, IsErr, OnOk, OnErr, IfErr, not, ◌&&◌, Some};
 ghost use Rattle.op_amount.specs.declared.TheConstants.{TOP};
 ghost use Rattle.op_model.specs.declared.act.Account.TheVariants.{Outside, Pool, Fees};
 ghost use Rattle.op_ledger.specs.Balances.{LedgerValue, balance_of, is_there, is_outside, posted_in, held_in, available_in, asset_in, total_in, IsNumbered, moved, holding, opened, deposit_legs, withdrawal_legs, transfer_legs};
@@ -38,6 +38,7 @@ impl Model for Ledger {
 
 impl Ledger {
     ghost use Rattle.op_ledger.specs.Sound.{IsSound};
+    ghost use Rattle.op_ledger.specs.Indexed.{AreDistinct};
     ghost use Rattle.op_ledger.specs.declared.values.LedgerFault.TheVariants as faults;
 
     /// A ledger without accounts.
@@ -177,6 +178,46 @@ impl Ledger {
         ensures at_most { result ≤ TOP }
     {
         self.balance(Account::Outside(asset)).posted
+    }
+
+    // The movements of a piece within an asset, of which the payer has what is taken.
+    fn move_within(&mut self, asset: u32, piece: &Piece)
+        requires payer { IsTrue (is_there self.old piece.now.payer && not (is_outside piece.now.payer)) }
+        requires payee { IsTrue (is_there self.old piece.now.payee && not (is_outside piece.now.payee)) }
+        requires fees { IsTrue (is_there self.old (Fees asset)) }
+        requires payer_asset { asset_in self.old piece.now.payer ≡ asset }
+        requires payee_asset { asset_in self.old piece.now.payee ≡ asset }
+        requires fees_asset { asset_in self.old (Fees asset) ≡ asset }
+        requires covered { taken piece.now ≤ available_in self.old piece.now.payer }
+        requires distinct { AreDistinct self.old.accounts }
+        ensures { self.new ≡ moved self.old (within_legs asset piece.now) }
+    {
+        self.transfer(piece.payer, Account::Fees(asset), piece.fee);
+        self.transfer(piece.payer, piece.payee, piece.sent);
+    }
+
+    // The movements of a piece between two assets, of which the payer has what is taken and the target's pool what is
+    // delivered.
+    fn move_between(&mut self, source: u32, target: u32, piece: &Piece)
+        requires payer { IsTrue (is_there self.old piece.now.payer && not (is_outside piece.now.payer)) }
+        requires payee { IsTrue (is_there self.old piece.now.payee && not (is_outside piece.now.payee)) }
+        requires fees { IsTrue (is_there self.old (Fees source)) }
+        requires source_pool { IsTrue (is_there self.old (Pool source)) }
+        requires target_pool { IsTrue (is_there self.old (Pool target)) }
+        requires payer_asset { asset_in self.old piece.now.payer ≡ source }
+        requires payee_asset { asset_in self.old piece.now.payee ≡ target }
+        requires fees_asset { asset_in self.old (Fees source) ≡ source }
+        requires source_pool_asset { asset_in self.old (Pool source) ≡ source }
+        requires target_pool_asset { asset_in self.old (Pool target) ≡ target }
+        requires two_assets { source ≢ target }
+        requires covered { taken piece.now ≤ available_in self.old piece.now.payer }
+        requires liquid { piece.now.delivered ≤ available_in self.old (Pool target) }
+        requires distinct { AreDistinct self.old.accounts }
+        ensures { self.new ≡ moved self.old (between_legs source target piece.now) }
+    {
+        self.transfer(piece.payer, Account::Fees(source), piece.fee);
+        self.transfer(piece.payer, Account::Pool(source), piece.sent);
+        self.transfer(Account::Pool(target), piece.payee, piece.delivered);
     }
 
     // Moves a value between two accounts of an asset.
