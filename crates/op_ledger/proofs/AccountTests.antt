@@ -82,3 +82,7 @@ pub not_of : (p q : Bool) → (p && not q) ≡ true → q ≡ false
 not_of true true h = absurd (differ h)
 not_of true false h = refl
 not_of false q h = absurd (differ h)
+
+pub with_inside : (p : Bool) → p ≡ true → (p && true) ≡ true
+with_inside true h = refl
+with_inside false h = absurd (differ h)

@@ -269,3 +269,19 @@ module _ (v : LedgerValue) (a c : Account) (n : ℕ) (x w : Balance) (sound : Is
       let w_there : find_balance (put y xs) w.account ≡ Some w = subst (λ e. find_balance (put y xs) e ≡ Some w) (sym at_w) w_found in
       let held : x.held ≤ x.posted = covered_inside v a x sound found a_inside in
       sound_between v x w (x.posted - n) (w.posted + n) sound x_found (ap is_outside at ∙ a_inside) w_there (ap is_outside at_w ∙ c_inside) target_asset (omega (arith, held, enough)) (omega arith) (omega (arith, held, enough))
+
+-- ---- what stands before a further transfer
+
+pub stays_there : (v : LedgerValue) (moves : List Movement) (a : Account) → (is_there v a && not (is_outside a)) ≡ true → (is_there (moved v moves) a && not (is_outside a)) ≡ true
+stays_there v moves a h = ap (λ t. t && not (is_outside a)) (there-moved v moves a) ∙ h
+
+pub same_asset : (v : LedgerValue) (moves : List Movement) (a c : Account) (asset : ℕ) → asset_in v a ≡ asset → asset_in v c ≡ asset → asset_in (moved v moves) a ≡ asset_in (moved v moves) c
+same_asset v moves a c asset h k = asset-moved v moves a ∙ h ∙ sym (asset-moved v moves c ∙ k)
+
+apart_assets_step : (t : Bool) (v : LedgerValue) (a c : Account) → is_same_account a c ≡ t → (asset_in v a ≡ asset_in v c → ⊥) → t ≡ false
+apart_assets_step true v a c e differ = absurd (differ (ap (asset_in v) (account_is a c e)))
+apart_assets_step false v a c e differ = refl
+
+-- accounts of two assets are two
+pub apart_assets : (v : LedgerValue) (a c : Account) → (asset_in v a ≡ asset_in v c → ⊥) → is_same_account a c ≡ false
+apart_assets v a c differ = apart_assets_step (is_same_account a c) v a c refl differ

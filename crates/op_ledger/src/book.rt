@@ -139,6 +139,38 @@ impl Ledger {
         Ok(())
     }
 
+    /// Posts a piece of a payment, from what is held on the payer. `Short` exactly where the payee's account is in
+    /// another asset than the payer's, and the pool of that asset has less available than is delivered.
+    pub fn post_part(&mut self, piece: &Piece) -> Result<(), LedgerFault>
+        requires payer { IsTrue (is_there self.old piece.now.payer && not (is_outside piece.now.payer)) }
+        requires payee { IsTrue (is_there self.old piece.now.payee && not (is_outside piece.now.payee)) }
+        requires fees { IsTrue (is_there self.old (Fees (asset_in self.old piece.now.payer))) }
+        requires pools { IsTrue (are_pools_there self.old piece.now) }
+        requires covered { taken piece.now ≤ held_in self.old piece.now.payer }
+        requires one_asset { IsTrue (is_within_one_asset self.old piece.now)
+            → piece.now.delivered ≡ piece.now.sent }
+        ensures ok { OnOk result (self.new ≡ with_piece self.old piece.now) }
+        ensures short { IsErr result ↔ IsTrue (lacks_liquidity self.old piece.now) }
+        ensures err { IfErr result
+            (λ e. (e ≡ faults.Short (available_in self.old (Pool (asset_in self.old piece.now.payee)))) × (self.new ≡ self.old)) }
+    {
+        let payer = self.balance(piece.payer);
+        let source = payer.asset;
+        let target = self.balance(piece.payee).asset;
+        if source == target {
+            self.void(piece.payer, piece.sent + piece.fee);
+            self.move_within(source, piece);
+            return Ok(());
+        }
+        let available = self.available_of(Account::Pool(target));
+        if available < piece.delivered {
+            return Err(LedgerFault::Short { available });
+        }
+        self.void(piece.payer, piece.sent + piece.fee);
+        self.move_between(source, target, piece);
+        Ok(())
+    }
+
     /// Frees a value that is held on an account.
     pub fn void(&mut self, account: Account, value: u64)
         requires there { IsTrue (is_there self.old account) }
