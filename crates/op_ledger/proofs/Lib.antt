@@ -5,3 +5,4 @@ pub mod Puts
 pub mod Soundness
 pub mod Moves
 pub mod Transfers
+pub mod Posting

@@ -69,7 +69,7 @@ held_keeps_step : (t : Bool) (x y : Balance) → x.account ≡ y.account → (co
 held_keeps_step true x y e = e
 held_keeps_step false x y e = refl
 
-held_keeps : (a : Account) (change : ℕ → ℕ) (b : Balance) → (with_held a change b).account ≡ b.account
+pub held_keeps : (a : Account) (change : ℕ → ℕ) (b : Balance) → (with_held a change b).account ≡ b.account
 held_keeps a change b = held_keeps_step (is_same_account b.account a) (record b { held = change b.held }) b refl
 
 held_field : (f : Balance → ℕ) (a : Account) (change : ℕ → ℕ) (b : Balance) → ((n : ℕ) → f (record b { held = n }) ≡ f b) → f (with_held a change b) ≡ f b

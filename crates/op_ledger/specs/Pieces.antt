@@ -1,9 +1,10 @@
 -- A piece that a ledger posts.
-use Rattle.std.specs.Prelude.{ℕ, ◌+◌, ◌-◌, Bool, not, ◌&&◌, ◌||◌, ◌==◌, nat_lt, List, [], ◌∷◌, if◌then◌else◌}
+use Rattle.std.specs.Prelude.{ℕ, ◌≡◌, ◌≢◌, ◌≤◌, ◌+◌, ◌-◌, Bool, IsTrue, not, ◌&&◌, ◌||◌, ◌==◌, nat_lt, List, [], ◌∷◌, if◌then◌else◌}
 use Rattle.op_model.specs.Balances.{Movement, comes, goes}
 use Rattle.op_model.specs.declared.act.Account.{Account}
 use Rattle.op_model.specs.declared.act.Account.TheVariants.{Fees, Pool}
-use Rattle.op_ledger.specs.Balances.{LedgerValue, is_there, asset_in, available_in, moved, holding}
+use Rattle.op_ledger.specs.Balances.{LedgerValue, is_there, is_outside, asset_in, available_in, moved, holding}
+use Rattle.op_ledger.specs.Indexed.{AreDistinct}
 use Rattle.op_ledger.specs.declared.values.Piece.{Piece}
 
 -- The movements of a piece within an asset: the payee gets what is sent.
@@ -46,3 +47,35 @@ abbrev pub lacks_liquidity : LedgerValue → Piece → Bool
 lacks_liquidity value piece =
     not (is_within_one_asset value piece)
     && nat_lt (available_in value (Pool (asset_in value piece.payee))) piece.delivered
+
+-- an account is there, and is not `Outside`
+abbrev pub IsInside : LedgerValue → Account → Type 0
+IsInside value account = IsTrue (is_there value account && not (is_outside account))
+
+-- the movements of a piece within an asset can be made
+pub record CanMoveWithin (value : LedgerValue) (asset : ℕ) (piece : Piece) : Type 0 where
+  pub payer : IsInside value piece.payer
+  pub payee : IsInside value piece.payee
+  pub fees : IsTrue (is_there value (Fees asset))
+  pub payer_asset : asset_in value piece.payer ≡ asset
+  pub payee_asset : asset_in value piece.payee ≡ asset
+  pub fees_asset : asset_in value (Fees asset) ≡ asset
+  pub covered : taken piece ≤ available_in value piece.payer
+  pub distinct : AreDistinct value.accounts
+
+-- the movements of a piece between two assets can be made
+pub record CanMoveBetween (value : LedgerValue) (source target : ℕ) (piece : Piece) : Type 0 where
+  pub payer : IsInside value piece.payer
+  pub payee : IsInside value piece.payee
+  pub fees : IsTrue (is_there value (Fees source))
+  pub source_pool : IsTrue (is_there value (Pool source))
+  pub target_pool : IsTrue (is_there value (Pool target))
+  pub payer_asset : asset_in value piece.payer ≡ source
+  pub payee_asset : asset_in value piece.payee ≡ target
+  pub fees_asset : asset_in value (Fees source) ≡ source
+  pub source_pool_asset : asset_in value (Pool source) ≡ source
+  pub target_pool_asset : asset_in value (Pool target) ≡ target
+  pub two_assets : source ≢ target
+  pub covered : taken piece ≤ available_in value piece.payer
+  pub liquid : piece.delivered ≤ available_in value (Pool target)
+  pub distinct : AreDistinct value.accounts

@@ -1,10 +1,10 @@
 //! The ledger.
 
-ghost use Rattle.std.specs.Prelude.{◌≡◌, ◌≢◌, ◌+◌, ◌-◌, ◌<◌, ◌≤◌, ◌↔◌, [], ◌∷◌, ◌++◌, IsTrue, IsErr, OnOk, OnErr, IfErr, not, ◌&&◌, Some};
+ghost use Rattle.std.specs.Prelude.{◌≡◌, ◌+◌, ◌-◌, ◌<◌, ◌≤◌, ◌↔◌, [], ◌∷◌, ◌++◌, IsTrue, IsErr, OnOk, OnErr, IfErr, not, ◌&&◌, Some};
 ghost use Rattle.op_amount.specs.declared.TheConstants.{TOP};
 ghost use Rattle.op_model.specs.declared.act.Account.TheVariants.{Outside, Pool, Fees};
 ghost use Rattle.op_ledger.specs.Balances.{LedgerValue, balance_of, is_there, is_outside, posted_in, held_in, available_in, asset_in, total_in, IsNumbered, moved, holding, opened, deposit_legs, withdrawal_legs, transfer_legs};
-ghost use Rattle.op_ledger.specs.Pieces.{within_legs, between_legs, is_within_one_asset, taken, with_piece, are_pools_there, lacks_liquidity};
+ghost use Rattle.op_ledger.specs.Pieces.{CanMoveWithin, CanMoveBetween, IsInside, within_legs, between_legs, is_within_one_asset, taken, with_piece, are_pools_there, lacks_liquidity};
 
 use crate::indexed::Accounts;
 use crate::values::{Balance, LedgerFault, Piece};
@@ -38,7 +38,6 @@ impl Model for Ledger {
 
 impl Ledger {
     ghost use Rattle.op_ledger.specs.Sound.{IsSound};
-    ghost use Rattle.op_ledger.specs.Indexed.{AreDistinct};
     ghost use Rattle.op_ledger.specs.declared.values.LedgerFault.TheVariants as faults;
 
     /// A ledger without accounts.
@@ -68,7 +67,7 @@ impl Ledger {
 
     /// Moves a value from outside to an account. `AssetFull` exactly where the asset's total would pass 10^18.
     pub fn deposit(&mut self, to: Account, value: u64) -> Result<(), LedgerFault>
-        requires there { IsTrue (is_there self.old to && not (is_outside to)) }
+        requires there { IsInside self.old to }
         requires outside { IsTrue (is_there self.old (Outside (asset_in self.old to))) }
         ensures ok { OnOk result (self.new ≡ moved self.old (deposit_legs self.old to value)) }
         ensures full { IsErr result ↔ (TOP < total_in self.old (asset_in self.old to) + value) }
@@ -95,7 +94,7 @@ impl Ledger {
 
     /// Moves a value from an account to outside. `Short` exactly where less is available.
     pub fn withdraw(&mut self, source: Account, value: u64) -> Result<(), LedgerFault>
-        requires there { IsTrue (is_there self.old source && not (is_outside source)) }
+        requires there { IsInside self.old source }
         requires outside { IsTrue (is_there self.old (Outside (asset_in self.old source))) }
         ensures ok { OnOk result (self.new ≡ moved self.old (withdrawal_legs self.old source value)) }
         ensures short { IsErr result ↔ (available_in self.old source < value) }
@@ -121,7 +120,7 @@ impl Ledger {
 
     /// Holds a value on an account, to be posted or freed later. `Short` exactly where less is available.
     pub fn hold(&mut self, account: Account, value: u64) -> Result<(), LedgerFault>
-        requires { IsTrue (is_there self.old account && not (is_outside account)) }
+        requires { IsInside self.old account }
         ensures ok { OnOk result (self.new ≡ holding self.old account (λ h. h + value)) }
         ensures short { IsErr result ↔ (available_in self.old account < value) }
         ensures err { IfErr result
@@ -142,8 +141,8 @@ impl Ledger {
     /// Posts a piece of a payment, from what is held on the payer. `Short` exactly where the payee's account is in
     /// another asset than the payer's, and the pool of that asset has less available than is delivered.
     pub fn post_part(&mut self, piece: &Piece) -> Result<(), LedgerFault>
-        requires payer { IsTrue (is_there self.old piece.now.payer && not (is_outside piece.now.payer)) }
-        requires payee { IsTrue (is_there self.old piece.now.payee && not (is_outside piece.now.payee)) }
+        requires payer { IsInside self.old piece.now.payer }
+        requires payee { IsInside self.old piece.now.payee }
         requires fees { IsTrue (is_there self.old (Fees (asset_in self.old piece.now.payer))) }
         requires pools { IsTrue (are_pools_there self.old piece.now) }
         requires covered { taken piece.now ≤ held_in self.old piece.now.payer }
@@ -186,7 +185,7 @@ impl Ledger {
 
     /// What is posted on an account.
     pub fn posted_of(&self, account: Account) -> u64
-        requires { IsTrue (is_there self.now account && not (is_outside account)) }
+        requires { IsInside self.now account }
         ensures value { result ≡ posted_in self.now account }
         ensures at_most { result ≤ TOP }
     {
@@ -195,7 +194,7 @@ impl Ledger {
 
     /// What is posted on an account and not held.
     pub fn available_of(&self, account: Account) -> u64
-        requires { IsTrue (is_there self.now account && not (is_outside account)) }
+        requires { IsInside self.now account }
         ensures value { result ≡ available_in self.now account }
         ensures covered { result + held_in self.now account ≡ posted_in self.now account }
     {
@@ -214,14 +213,7 @@ impl Ledger {
 
     // The movements of a piece within an asset, of which the payer has what is taken.
     fn move_within(&mut self, asset: u32, piece: &Piece)
-        requires payer { IsTrue (is_there self.old piece.now.payer && not (is_outside piece.now.payer)) }
-        requires payee { IsTrue (is_there self.old piece.now.payee && not (is_outside piece.now.payee)) }
-        requires fees { IsTrue (is_there self.old (Fees asset)) }
-        requires payer_asset { asset_in self.old piece.now.payer ≡ asset }
-        requires payee_asset { asset_in self.old piece.now.payee ≡ asset }
-        requires fees_asset { asset_in self.old (Fees asset) ≡ asset }
-        requires covered { taken piece.now ≤ available_in self.old piece.now.payer }
-        requires distinct { AreDistinct self.old.accounts }
+        requires { CanMoveWithin self.old asset piece.now }
         ensures { self.new ≡ moved self.old (within_legs asset piece.now) }
     {
         self.transfer(piece.payer, Account::Fees(asset), piece.fee);
@@ -231,20 +223,7 @@ impl Ledger {
     // The movements of a piece between two assets, of which the payer has what is taken and the target's pool what is
     // delivered.
     fn move_between(&mut self, source: u32, target: u32, piece: &Piece)
-        requires payer { IsTrue (is_there self.old piece.now.payer && not (is_outside piece.now.payer)) }
-        requires payee { IsTrue (is_there self.old piece.now.payee && not (is_outside piece.now.payee)) }
-        requires fees { IsTrue (is_there self.old (Fees source)) }
-        requires source_pool { IsTrue (is_there self.old (Pool source)) }
-        requires target_pool { IsTrue (is_there self.old (Pool target)) }
-        requires payer_asset { asset_in self.old piece.now.payer ≡ source }
-        requires payee_asset { asset_in self.old piece.now.payee ≡ target }
-        requires fees_asset { asset_in self.old (Fees source) ≡ source }
-        requires source_pool_asset { asset_in self.old (Pool source) ≡ source }
-        requires target_pool_asset { asset_in self.old (Pool target) ≡ target }
-        requires two_assets { source ≢ target }
-        requires covered { taken piece.now ≤ available_in self.old piece.now.payer }
-        requires liquid { piece.now.delivered ≤ available_in self.old (Pool target) }
-        requires distinct { AreDistinct self.old.accounts }
+        requires { CanMoveBetween self.old source target piece.now }
         ensures { self.new ≡ moved self.old (between_legs source target piece.now) }
     {
         self.transfer(piece.payer, Account::Fees(source), piece.fee);
@@ -254,8 +233,8 @@ impl Ledger {
 
     // Moves a value between two accounts of an asset.
     fn transfer(&mut self, source: Account, target: Account, value: u64)
-        requires source { IsTrue (is_there self.old source && not (is_outside source)) }
-        requires target { IsTrue (is_there self.old target && not (is_outside target)) }
+        requires source { IsInside self.old source }
+        requires target { IsInside self.old target }
         requires one_asset { asset_in self.old source ≡ asset_in self.old target }
         requires covered { value ≤ available_in self.old source }
         ensures { self.new ≡ moved self.old (transfer_legs source target value) }
