@@ -8,9 +8,9 @@ use Rattle.op_model.specs.declared.act.Account.{Account}
 use Rattle.op_model.specs.declared.act.Account.TheVariants.{Pool, Fees}
 use Rattle.op_ledger.specs.declared.values.Balance.{Balance}
 use Rattle.op_ledger.specs.declared.values.Piece.{Piece}
-use Rattle.op_ledger.specs.Balances.{LedgerValue, balance_of, is_there, posted_in, held_in, available_in, asset_in, is_outside, IsNumbered, with_held, holding}
+use Rattle.op_ledger.specs.Balances.{LedgerValue, balance_of, is_there, posted_in, held_in, available_in, asset_in, is_outside, IsInside, IsNumbered, with_held, holding}
 use Rattle.op_ledger.specs.Sound.{IsSound}
-use Rattle.op_ledger.specs.Pieces.{taken, is_within_one_asset, are_pools_there, IsInside, CanMoveWithin, CanMoveBetween}
+use Rattle.op_ledger.specs.Pieces.{taken, is_within_one_asset, are_pools_there, CanMoveWithin, CanMoveBetween}
 use Rattle.op_ledger.proofs.AccountTests.{left_of, right_of, not_of, is_account}
 use Rattle.op_ledger.proofs.Index.{found_account, there_is, distinct-map}
 use Rattle.op_ledger.proofs.Soundness.{covered_inside, numbered_of}

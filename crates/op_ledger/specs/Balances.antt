@@ -1,5 +1,5 @@
 -- A ledger: each account with what is posted and held on it.
-use Rattle.std.specs.Prelude.{ℕ, ◌≡◌, ◌+◌, ◌-◌, Bool, true, false, if◌then◌else◌, List, [], ◌∷◌, ◌++◌, map}
+use Rattle.std.specs.Prelude.{ℕ, ◌≡◌, ◌+◌, ◌-◌, Bool, true, false, not, ◌&&◌, IsTrue, if◌then◌else◌, List, [], ◌∷◌, ◌++◌, map}
 use Rattle.std.specs.List.{find}
 use Rattle.std.specs.Option.{option_map_or, is_some}
 use Rattle.std.specs.declared.option.Option.{Option}
@@ -41,6 +41,10 @@ total_in value asset = posted_in value (Outside asset)
 abbrev pub is_outside : Account → Bool
 is_outside (Outside asset) = true
 is_outside _ = false
+
+-- an account is there, and is not `Outside`
+abbrev pub IsInside : LedgerValue → Account → Type 0
+IsInside value account = IsTrue (is_there value account && not (is_outside account))
 
 -- the accounts of an asset have its number
 abbrev pub IsNumbered : Account → ℕ → Type 0

@@ -3,7 +3,7 @@ use Rattle.std.specs.Prelude.{ℕ, ◌≡◌, ◌≢◌, ◌≤◌, ◌+◌, ◌
 use Rattle.op_model.specs.Balances.{Movement, comes, goes}
 use Rattle.op_model.specs.declared.act.Account.{Account}
 use Rattle.op_model.specs.declared.act.Account.TheVariants.{Fees, Pool}
-use Rattle.op_ledger.specs.Balances.{LedgerValue, is_there, is_outside, asset_in, available_in, moved, holding}
+use Rattle.op_ledger.specs.Balances.{LedgerValue, is_there, IsInside, asset_in, available_in, moved, holding}
 use Rattle.op_ledger.specs.Indexed.{AreDistinct}
 use Rattle.op_ledger.specs.declared.values.Piece.{Piece}
 
@@ -47,10 +47,6 @@ abbrev pub lacks_liquidity : LedgerValue → Piece → Bool
 lacks_liquidity value piece =
     not (is_within_one_asset value piece)
     && nat_lt (available_in value (Pool (asset_in value piece.payee))) piece.delivered
-
--- an account is there, and is not `Outside`
-abbrev pub IsInside : LedgerValue → Account → Type 0
-IsInside value account = IsTrue (is_there value account && not (is_outside account))
 
 -- the movements of a piece within an asset can be made
 pub record CanMoveWithin (value : LedgerValue) (asset : ℕ) (piece : Piece) : Type 0 where

@@ -1,10 +1,10 @@
 //! The ledger.
 
-ghost use Rattle.std.specs.Prelude.{◌≡◌, ◌+◌, ◌-◌, ◌<◌, ◌≤◌, ◌↔◌, [], ◌∷◌, ◌++◌, IsTrue, IsErr, OnOk, OnErr, IfErr, not, ◌&&◌, Some};
+ghost use Rattle.std.specs.Prelude.{◌≡◌, ◌+◌, ◌-◌, ◌<◌, ◌≤◌, ◌↔◌, [], ◌∷◌, ◌++◌, IsTrue, IsErr, OnOk, OnErr, IfErr, not, Some, option_map};
 ghost use Rattle.op_amount.specs.declared.TheConstants.{TOP};
 ghost use Rattle.op_model.specs.declared.act.Account.TheVariants.{Outside, Pool, Fees};
-ghost use Rattle.op_ledger.specs.Balances.{LedgerValue, balance_of, is_there, is_outside, posted_in, held_in, available_in, asset_in, total_in, IsNumbered, moved, holding, opened, deposit_legs, withdrawal_legs, transfer_legs};
-ghost use Rattle.op_ledger.specs.Pieces.{CanMoveWithin, CanMoveBetween, IsInside, within_legs, between_legs, is_within_one_asset, taken, with_piece, are_pools_there, lacks_liquidity};
+ghost use Rattle.op_ledger.specs.Balances.{LedgerValue, balance_of, is_there, IsInside, posted_in, held_in, available_in, asset_in, total_in, IsNumbered, moved, holding, opened, deposit_legs, withdrawal_legs, transfer_legs};
+ghost use Rattle.op_ledger.specs.Pieces.{CanMoveWithin, CanMoveBetween, within_legs, between_legs, is_within_one_asset, taken, with_piece, are_pools_there, lacks_liquidity};
 
 use crate::indexed::Accounts;
 use crate::values::{Balance, LedgerFault, Piece};
@@ -183,6 +183,13 @@ impl Ledger {
         });
     }
 
+    /// The asset in which an account stands, if it is there.
+    pub fn asset_of(&self, account: Account) -> Option<u32>
+        ensures { result ≡ option_map (λ b. b.asset) (balance_of self.now account) }
+    {
+        self.accounts.find(account).map(|balance| balance.asset)
+    }
+
     /// What is posted on an account.
     pub fn posted_of(&self, account: Account) -> u64
         requires { IsInside self.now account }
@@ -251,6 +258,7 @@ impl Ledger {
         });
     }
 
+    // The balance of an account.
     fn balance(&self, account: Account) -> Balance
         requires { IsTrue (is_there self.now account) }
         ensures found { balance_of self.now account ≡ Some result }

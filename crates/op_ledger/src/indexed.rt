@@ -43,6 +43,16 @@ impl Accounts {
         }
     }
 
+    /// The balance of an account, if it is there.
+    pub fn find(&self, account: Account) -> Option<Balance>
+        ensures { result ≡ find_balance self.now account }
+    {
+        match self.places.find(account) {
+            Some(place) => Some(self.balances[place]),
+            None => None,
+        }
+    }
+
     /// The balance of an account.
     pub fn balance(&self, account: Account) -> Balance
         requires { IsTrue (is_some (find_balance self.now account)) }

@@ -5,6 +5,8 @@
 mod book;
 mod indexed;
 mod places;
+#[cfg(test)]
+mod tests;
 mod values;
 
 pub use book::Ledger;
