@@ -35,7 +35,6 @@ found_itself xs k b distinct h =
 
 -- ---- a change that leaves the accounts
 
-
 pub find_balance-map : (g : Balance → Balance) → ((b : Balance) → (g b).account ≡ b.account) → (xs : List Balance) (a : Account) → find_balance (map g xs) a ≡ option_map g (find_balance xs a)
 find_balance-map g keeps xs a =
     find-map (λ b. is_same_account b.account a) g (λ b. ap (λ c. is_same_account c a) (keeps b)) xs
@@ -92,9 +91,9 @@ distinct-append [] b distinct fresh = (refl, tt)
 distinct-append (x ∷ xs) b distinct fresh =
     let t = is_same_account x.account b.account in
     let apart : find_balance (b ∷ []) x.account ≡ None =
-      fresh_step t (is_same_account b.account x.account) x (find_balance xs b.account) b (is_same_account-sym b.account x.account) fresh in
+    fresh_step t (is_same_account b.account x.account) x (find_balance xs b.account) b (is_same_account-sym b.account x.account) fresh in
     let head : find_balance (xs ++ b ∷ []) x.account ≡ None =
-      find-append (λ c. is_same_account c.account x.account) xs (b ∷ []) ∙ ap (λ o. option_or o (find_balance (b ∷ []) x.account)) distinct.0 ∙ apart in
+    find-append (λ c. is_same_account c.account x.account) xs (b ∷ []) ∙ ap (λ o. option_or o (find_balance (b ∷ []) x.account)) distinct.0 ∙ apart in
     (head, distinct-append xs b distinct.1 (rest_none t x (find_balance xs b.account) fresh))
 
 get_front : (xs ys : List Balance) (i : ℕ) → i < length xs → slice_get (xs ++ ys) i ≡ slice_get xs i
@@ -114,14 +113,14 @@ placed_step : (t : Bool) (xs : List Balance) (b : Balance) (a : Account) (o : Op
 placed_step true xs b a o e fresh h =
     let none : find_balance xs a ≡ None = subst (λ c. find_balance xs c ≡ None) (account_is b.account a e) fresh in
     let found : find_balance (xs ++ b ∷ []) a ≡ Some b =
-      find-append (λ c. is_same_account c.account a) xs (b ∷ []) ∙ ap (λ p. option_or p (find_balance (b ∷ []) a)) none ∙ rw e refl in
+    find-append (λ c. is_same_account c.account a) xs (b ∷ []) ∙ ap (λ p. option_or p (find_balance (b ∷ []) a)) none ∙ rw e refl in
     (omega (arith, length-append xs (b ∷ [])), get_last xs b ∙ sym found)
 placed_step false xs b a None e fresh h =
     find-append (λ c. is_same_account c.account a) xs (b ∷ []) ∙ ap (λ p. option_or p (find_balance (b ∷ []) a)) h ∙ rw e refl
 placed_step false xs b a (Some place) e fresh h =
     let none : find_balance (b ∷ []) a ≡ None = rw e refl in
     let found : find_balance (xs ++ b ∷ []) a ≡ find_balance xs a =
-      find-append (λ c. is_same_account c.account a) xs (b ∷ []) ∙ ap (λ p. option_or (find_balance xs a) p) none ∙ or_none (find_balance xs a) in
+    find-append (λ c. is_same_account c.account a) xs (b ∷ []) ∙ ap (λ p. option_or (find_balance xs a) p) none ∙ or_none (find_balance xs a) in
     (omega (arith, length-append xs (b ∷ []), h.0), get_front xs (b ∷ []) place h.0 ∙ h.1 ∙ sym found)
 
 pub indexed-append : (old new : Places) (xs : List Balance) (b : Balance) → IsIndexed old xs → PlacesAlso old new b.account (length xs) → find_balance xs b.account ≡ None → IsIndexed new (xs ++ b ∷ [])

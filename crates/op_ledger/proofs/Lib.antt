@@ -6,3 +6,5 @@ pub mod Soundness
 pub mod Moves
 pub mod Transfers
 pub mod Posting
+pub mod Runs
+pub mod Sums

@@ -45,7 +45,7 @@ freed v a n sound h le =
     let there : is_there v a ≡ true = left_of (is_there v a) (not (is_outside a)) h in
     let inside : is_outside a ≡ false = not_of (is_there v a) (is_outside a) h in
     let held : held_in (holding v a (λ k. k - n)) a ≡ held_in v a - n =
-      held-holding v a (λ k. k - n) a there ∙ ap (λ t. cond t (held_in v a - n) (held_in v a)) (is_account a) in
+    held-holding v a (λ k. k - n) a there ∙ ap (λ t. cond t (held_in v a - n) (held_in v a)) (is_account a) in
     omega (arith, held, posted-holding v a (λ k. k - n) a, held_posted v a sound there inside, le)
 
 less_held : (t : Bool) (h n : ℕ) → cond t (h - n) h ≤ h

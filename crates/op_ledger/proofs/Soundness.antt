@@ -79,14 +79,14 @@ sound_with_outside v x w y z sound found out w_found w_out held sums top =
     let w_covered : w.held ≤ 0 = subst (λ n. w.held ≤ n) (backing_outside w w_outside) (covered_of xs w.account w sound.covered w_found) in
     let d_covered : d.held ≤ backing d = subst (λ n. w.held ≤ n) (sym (backing_outside d w_outside)) w_covered in
     let totals : (q : ℕ) → total_in (ledger (put d ys)) q ≡ cond (x.asset == q) z (total_in v q) =
-      λ q. total-put_outside d w ys x.asset q there w_out ∙ ap (cond (x.asset == q) z) (total-put_inside b x xs q found out) in
+    λ q. total-put_outside d w ys x.asset q there w_out ∙ ap (cond (x.asset == q) z) (total-put_inside b x xs q found out) in
     record {
       distinct = distinct-map (put_at d) (put_keeps d) ys distinct;
       numbered = All-put (λ c. IsNumbered c.account c.asset) d ys (numbered_of xs w.account w sound.numbered w_found)
-        (All-put (λ c. IsNumbered c.account c.asset) b xs (numbered_of xs x.account x sound.numbered found) sound.numbered);
+          (All-put (λ c. IsNumbered c.account c.asset) b xs (numbered_of xs x.account x sound.numbered found) sound.numbered);
       covered = All-put (λ c. c.held ≤ backing c) d ys d_covered (All-put (λ c. c.held ≤ backing c) b xs b_covered sound.covered);
       balanced = λ q.
-        both_step (x.asset == q) (inside v q) (inside (ledger ys) q) (inside (ledger (put d ys)) q) (total_in v q) (total_in (ledger (put d ys)) q) x.posted y w.posted z
+          both_step (x.asset == q) (inside v q) (inside (ledger ys) q) (inside (ledger (put d ys)) q) (total_in v q) (total_in (ledger (put d ys)) q) x.posted y w.posted z
           (ap (λ n. inside (ledger ys) q + n) (sym (part_inside q x out)) ∙ inside-put b x xs q sound.distinct found ∙ ap (λ n. inside v q + n) (part_inside q b out))
           (ap (λ n. inside (ledger (put d ys)) q + n) (sym (part_outside q w w_outside)) ∙ inside-put d w ys q distinct there ∙ ap (λ n. inside (ledger ys) q + n) (part_outside q d w_outside))
           (sound.balanced q) (totals q) (λ e. subst (λ k. total_in v k ≡ w.posted) (number_is x.asset q e) w_total) sums;
@@ -112,18 +112,18 @@ sound_between v x w y z sound found out w_found w_out asset held raised sums =
     let w_covered : w.held ≤ w.posted = subst (λ n. w.held ≤ n) (backing_inside w w_out) (covered_of ys w.account w covered w_found) in
     let d_covered : d.held ≤ backing d = subst (λ n. w.held ≤ n) (sym (backing_inside d w_out)) (omega (arith, w_covered, raised)) in
     let totals : (q : ℕ) → total_in (ledger (put d ys)) q ≡ total_in v q =
-      λ q. total-put_inside d w ys q w_found w_out ∙ total-put_inside b x xs q found out in
+    λ q. total-put_inside d w ys q w_found w_out ∙ total-put_inside b x xs q found out in
     let w_part : (q n : ℕ) → cond (w.asset == q) n 0 ≡ cond (x.asset == q) n 0 = λ q n. ap (λ k. cond (k == q) n 0) asset in
     record {
       distinct = distinct-map (put_at d) (put_keeps d) ys distinct;
       numbered = All-put (λ c. IsNumbered c.account c.asset) d ys (numbered_of ys w.account w numbered w_found) numbered;
       covered = All-put (λ c. c.held ≤ backing c) d ys d_covered covered;
       balanced = λ q.
-        between_step (x.asset == q) (inside v q) (inside (ledger ys) q) (inside (ledger (put d ys)) q) (total_in v q) x.posted y w.posted z
+          between_step (x.asset == q) (inside v q) (inside (ledger ys) q) (inside (ledger (put d ys)) q) (total_in v q) x.posted y w.posted z
           (ap (λ n. inside (ledger ys) q + n) (sym (part_inside q x out)) ∙ inside-put b x xs q sound.distinct found ∙ ap (λ n. inside v q + n) (part_inside q b out))
           (ap (λ n. inside (ledger (put d ys)) q + n) (sym (part_inside q w w_out ∙ w_part q w.posted)) ∙ inside-put d w ys q distinct w_found ∙ ap (λ n. inside (ledger ys) q + n) (part_inside q d w_out ∙ w_part q z))
           (sound.balanced q) sums
-        ∙ sym (totals q);
+          ∙ sym (totals q);
       at_most_top = λ q. subst (λ n. n ≤ TOP) (sym (totals q)) (sound.at_most_top q);
     }
 
@@ -150,8 +150,8 @@ sound_opened v account asset sound fresh numbered =
     let xs = v.accounts in
     let b : Balance = record { account = account; asset = asset; posted = 0; held = 0 } in
     let totals : (q : ℕ) → total_in (opened v account asset) q ≡ total_in v q =
-      λ q. ap (λ o. option_map_or (λ c. c.posted) o 0) (find-append (λ c. is_same_account c.account (Outside q)) xs (b ∷ []))
-      ∙ empty_step (find_balance xs (Outside q)) (is_same_account account (Outside q)) b refl in
+    λ q. ap (λ o. option_map_or (λ c. c.posted) o 0) (find-append (λ c. is_same_account c.account (Outside q)) xs (b ∷ []))
+    ∙ empty_step (find_balance xs (Outside q)) (is_same_account account (Outside q)) b refl in
     let part : (q : ℕ) → inside_part q b ≡ 0 = λ q. nothing_step (not (is_outside account) && (asset == q)) in
     record {
       distinct = distinct-append xs b sound.distinct fresh;
@@ -183,17 +183,17 @@ found_there v a x found = subst (λ c. balance_of v c ≡ Some x) (sym (found_ac
 pub sound_deposit : (v : LedgerValue) (a : Account) (n : ℕ) (x w : Balance) → IsSound v → balance_of v a ≡ Some x → is_outside a ≡ false → balance_of v (Outside x.asset) ≡ Some w → w.posted + n ≤ TOP → IsSound (ledger (put (record w { posted = w.posted + n }) (put (record x { posted = x.posted + n }) v.accounts)))
 sound_deposit v a n x w sound found inside w_found top =
     sound_with_outside v x w (x.posted + n) (w.posted + n) sound (found_there v a x found) (ap is_outside (found_account v.accounts a x found) ∙ inside)
-      (found_there v (Outside x.asset) w w_found) (found_account v.accounts (Outside x.asset) w w_found)
-      (omega (arith, covered_inside v a x sound found inside)) (omega arith) top
+    (found_there v (Outside x.asset) w w_found) (found_account v.accounts (Outside x.asset) w w_found)
+    (omega (arith, covered_inside v a x sound found inside)) (omega arith) top
 
 pub sound_withdrawal : (v : LedgerValue) (a : Account) (n : ℕ) (x w : Balance) → IsSound v → balance_of v a ≡ Some x → is_outside a ≡ false → balance_of v (Outside x.asset) ≡ Some w → n ≤ x.posted - x.held → IsSound (ledger (put (record w { posted = w.posted - n }) (put (record x { posted = x.posted - n }) v.accounts)))
 sound_withdrawal v a n x w sound found inside w_found le =
     let total : total_in v x.asset ≡ w.posted = ap (λ o. option_map_or (λ c. c.posted) o 0) w_found in
     sound_with_outside v x w (x.posted - n) (w.posted - n) sound (found_there v a x found) (ap is_outside (found_account v.accounts a x found) ∙ inside)
-      (found_there v (Outside x.asset) w w_found) (found_account v.accounts (Outside x.asset) w w_found)
-      (omega (arith, covered_inside v a x sound found inside, le))
-      (omega (arith, covered_inside v a x sound found inside, posted_outside v a x w sound found inside w_found, le))
-      (omega (arith, total, sound.at_most_top x.asset))
+    (found_there v (Outside x.asset) w w_found) (found_account v.accounts (Outside x.asset) w w_found)
+    (omega (arith, covered_inside v a x sound found inside, le))
+    (omega (arith, covered_inside v a x sound found inside, posted_outside v a x w sound found inside w_found, le))
+    (omega (arith, total, sound.at_most_top x.asset))
 
 -- a total is at most the largest value
 pub outside_top : (v : LedgerValue) (s : ℕ) (w : Balance) → IsSound v → balance_of v (Outside s) ≡ Some w → w.posted ≤ TOP

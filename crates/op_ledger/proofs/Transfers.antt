@@ -43,7 +43,7 @@ there-moved v moves a =
 moved_field : (f : Balance → ℕ) (moves : List Movement) (b : Balance) → ((n : ℕ) → f (record b { posted = n }) ≡ f b) → f (moved_balance moves b) ≡ f b
 moved_field f moves b keeps =
     field_step f (is_outside b.account) (record b { posted = b.posted + went_from moves b.account - came_to moves b.account }) (record b { posted = b.posted + came_to moves b.account - went_from moves b.account }) (f b)
-      (keeps (b.posted + went_from moves b.account - came_to moves b.account)) (keeps (b.posted + came_to moves b.account - went_from moves b.account))
+    (keeps (b.posted + went_from moves b.account - came_to moves b.account)) (keeps (b.posted + came_to moves b.account - went_from moves b.account))
 
 pub asset-moved : (v : LedgerValue) (moves : List Movement) (a : Account) → asset_in (moved v moves) a ≡ asset_in v a
 asset-moved v moves a =
@@ -142,9 +142,9 @@ available_other v a c e n there inside apart =
 pub moved_same : (v : LedgerValue) (l r : List Movement) → ((a : Account) → came_to l a ≡ came_to r a) → ((a : Account) → went_from l a ≡ went_from r a) → moved v l ≡ moved v r
 moved_same v l r came went =
     ap ledger (map_same (moved_balance l) (moved_balance r) v.accounts
-      (λ k b at.
-        ap (λ n. cond (is_outside b.account) (record b { posted = b.posted + went_from l b.account - n }) (record b { posted = b.posted + n - went_from l b.account })) (came b.account)
-        ∙ ap (λ n. cond (is_outside b.account) (record b { posted = b.posted + n - came_to r b.account }) (record b { posted = b.posted + came_to r b.account - n })) (went b.account)))
+    (λ k b at.
+    ap (λ n. cond (is_outside b.account) (record b { posted = b.posted + went_from l b.account - n }) (record b { posted = b.posted + n - went_from l b.account })) (came b.account)
+    ∙ ap (λ n. cond (is_outside b.account) (record b { posted = b.posted + n - came_to r b.account }) (record b { posted = b.posted + came_to r b.account - n })) (went b.account)))
 
 -- ---- transfers that cover one another
 
@@ -165,10 +165,11 @@ covered_by v moves a n distinct there le went came k b at =
     let x = there_is (balance_of v a) there in
     let before : posted_in v a ≡ x.0.posted = ap (λ o. option_map_or (λ b. b.posted) o 0) x.1 in
     let paid : cond (is_same_account a b.account) n 0 ≤ b.posted + came_to moves b.account =
-      paid_step (is_same_account a b.account) b x.0 n (came_to moves b.account)
-        (λ e. same_found v.accounts k b a x.0 distinct at x.1 (is_same_account-sym b.account a ∙ e)) (omega (arith, before, le)) in
-    (λ out. omega (arith, came b.account out),
-      λ in_b. subst (λ m. m ≤ b.posted + came_to moves b.account) (sym (went b.account)) paid)
+    paid_step (is_same_account a b.account) b x.0 n (came_to moves b.account)
+    (λ e. same_found v.accounts k b a x.0 distinct at x.1 (is_same_account-sym b.account a ∙ e)) (omega (arith, before, le)) in (
+      λ out. omega (arith, came b.account out),
+      λ in_b. subst (λ m. m ≤ b.posted + came_to moves b.account) (sym (went b.account)) paid,
+    )
 
 added : (t : Bool) (m n : ℕ) → cond t (m + n) 0 ≡ cond t m 0 + cond t n 0
 added true m n = refl
@@ -184,16 +185,29 @@ within_is v asset piece distinct there le =
     let fee = transfer_legs p (Fees asset) piece.fee in
     let pay = transfer_legs p piece.payee piece.sent in
     sym (moved-append v fee pay
-      (covered_by v fee p piece.fee distinct there (omega (arith, le)) (went-transfer p (Fees asset) piece.fee)
-        (λ e out. came-transfer p (Fees asset) piece.fee e ∙ nothing (Fees asset) e piece.fee refl out)))
+    (covered_by v fee p piece.fee distinct there (omega (arith, le)) (went-transfer p (Fees asset) piece.fee)
+    (λ e out. came-transfer p (Fees asset) piece.fee e ∙ nothing (Fees asset) e piece.fee refl out)))
     ∙ moved_same v (fee ++ pay) (within_legs asset piece)
-      (λ e.
-        omega (arith, came-goes piece.fee p (comes piece.fee (Fees asset) ∷ pay) e, came-comes piece.fee (Fees asset) pay e, came-goes piece.sent p (comes piece.sent piece.payee ∷ []) e,
-          came-goes (piece.sent + piece.fee) p (comes piece.fee (Fees asset) ∷ comes piece.sent piece.payee ∷ []) e, came-comes piece.fee (Fees asset) (comes piece.sent piece.payee ∷ []) e))
-      (λ e.
-        omega (arith, went-goes piece.fee p (comes piece.fee (Fees asset) ∷ pay) e, went-comes piece.fee (Fees asset) pay e, went-goes piece.sent p (comes piece.sent piece.payee ∷ []) e,
-          went-goes (piece.sent + piece.fee) p (comes piece.fee (Fees asset) ∷ comes piece.sent piece.payee ∷ []) e, went-comes piece.fee (Fees asset) (comes piece.sent piece.payee ∷ []) e,
-          went-comes piece.sent piece.payee [] e, added (is_same_account p e) piece.sent piece.fee))
+    (λ e.
+    omega (
+      arith,
+      came-goes piece.fee p (comes piece.fee (Fees asset) ∷ pay) e,
+      came-comes piece.fee (Fees asset) pay e,
+      came-goes piece.sent p (comes piece.sent piece.payee ∷ []) e,
+      came-goes (piece.sent + piece.fee) p (comes piece.fee (Fees asset) ∷ comes piece.sent piece.payee ∷ []) e,
+      came-comes piece.fee (Fees asset) (comes piece.sent piece.payee ∷ []) e,
+    ))
+    (λ e.
+    omega (
+      arith,
+      went-goes piece.fee p (comes piece.fee (Fees asset) ∷ pay) e,
+      went-comes piece.fee (Fees asset) pay e,
+      went-goes piece.sent p (comes piece.sent piece.payee ∷ []) e,
+      went-goes (piece.sent + piece.fee) p (comes piece.fee (Fees asset) ∷ comes piece.sent piece.payee ∷ []) e,
+      went-comes piece.fee (Fees asset) (comes piece.sent piece.payee ∷ []) e,
+      went-comes piece.sent piece.payee [] e,
+      added (is_same_account p e) piece.sent piece.fee,
+    ))
 
 -- a piece between two assets, as three transfers
 pub between_is : (v : LedgerValue) (source target : ℕ) (piece : Piece) → AreDistinct v.accounts → is_there v piece.payer ≡ true → piece.sent + piece.fee ≤ posted_in v piece.payer → moved (moved (moved v (transfer_legs piece.payer (Fees source) piece.fee)) (transfer_legs piece.payer (Pool source) piece.sent)) (transfer_legs (Pool target) piece.payee piece.delivered) ≡ moved v (between_legs source target piece)
@@ -203,21 +217,34 @@ between_is v source target piece distinct there le =
     let pay = transfer_legs p (Pool source) piece.sent in
     let give = transfer_legs (Pool target) piece.payee piece.delivered in
     let fee_covered = covered_by v fee p piece.fee distinct there (omega (arith, le)) (went-transfer p (Fees source) piece.fee)
-      (λ e out. came-transfer p (Fees source) piece.fee e ∙ nothing (Fees source) e piece.fee refl out) in
+    (λ e out. came-transfer p (Fees source) piece.fee e ∙ nothing (Fees source) e piece.fee refl out) in
     let both_went : (e : Account) → went_from (fee ++ pay) e ≡ cond (is_same_account p e) (piece.sent + piece.fee) 0 =
-      λ e. omega (arith, went-goes piece.fee p (comes piece.fee (Fees source) ∷ pay) e, went-comes piece.fee (Fees source) pay e, went-transfer p (Pool source) piece.sent e, added (is_same_account p e) piece.sent piece.fee) in
+    λ e. omega (arith, went-goes piece.fee p (comes piece.fee (Fees source) ∷ pay) e, went-comes piece.fee (Fees source) pay e, went-transfer p (Pool source) piece.sent e, added (is_same_account p e) piece.sent piece.fee) in
     let both_came : (e : Account) → is_outside e ≡ true → came_to (fee ++ pay) e ≡ 0 =
-      λ e out. omega (arith, came-goes piece.fee p (comes piece.fee (Fees source) ∷ pay) e, came-comes piece.fee (Fees source) pay e, came-transfer p (Pool source) piece.sent e, nothing (Fees source) e piece.fee refl out, nothing (Pool source) e piece.sent refl out) in
+    λ e out. omega (arith, came-goes piece.fee p (comes piece.fee (Fees source) ∷ pay) e, came-comes piece.fee (Fees source) pay e, came-transfer p (Pool source) piece.sent e, nothing (Fees source) e piece.fee refl out, nothing (Pool source) e piece.sent refl out) in
     let rest = comes piece.sent (Pool source) ∷ give in
     sym (moved-append v (fee ++ pay) give (covered_by v (fee ++ pay) p (piece.sent + piece.fee) distinct there le both_went both_came)
-      ∙ ap (λ u. moved u give) (moved-append v fee pay fee_covered))
+    ∙ ap (λ u. moved u give) (moved-append v fee pay fee_covered))
     ∙ moved_same v ((fee ++ pay) ++ give) (between_legs source target piece)
-      (λ e.
-        omega (arith, came-goes piece.fee p (comes piece.fee (Fees source) ∷ goes piece.sent p ∷ rest) e, came-comes piece.fee (Fees source) (goes piece.sent p ∷ rest) e, came-goes piece.sent p rest e,
-          came-goes (piece.sent + piece.fee) p (comes piece.fee (Fees source) ∷ rest) e, came-comes piece.fee (Fees source) rest e))
-      (λ e.
-        omega (arith, went-goes piece.fee p (comes piece.fee (Fees source) ∷ goes piece.sent p ∷ rest) e, went-comes piece.fee (Fees source) (goes piece.sent p ∷ rest) e, went-goes piece.sent p rest e,
-          went-goes (piece.sent + piece.fee) p (comes piece.fee (Fees source) ∷ rest) e, went-comes piece.fee (Fees source) rest e, added (is_same_account p e) piece.sent piece.fee))
+    (λ e.
+    omega (
+      arith,
+      came-goes piece.fee p (comes piece.fee (Fees source) ∷ goes piece.sent p ∷ rest) e,
+      came-comes piece.fee (Fees source) (goes piece.sent p ∷ rest) e,
+      came-goes piece.sent p rest e,
+      came-goes (piece.sent + piece.fee) p (comes piece.fee (Fees source) ∷ rest) e,
+      came-comes piece.fee (Fees source) rest e,
+    ))
+    (λ e.
+    omega (
+      arith,
+      went-goes piece.fee p (comes piece.fee (Fees source) ∷ goes piece.sent p ∷ rest) e,
+      went-comes piece.fee (Fees source) (goes piece.sent p ∷ rest) e,
+      went-goes piece.sent p rest e,
+      went-goes (piece.sent + piece.fee) p (comes piece.fee (Fees source) ∷ rest) e,
+      went-comes piece.fee (Fees source) rest e,
+      added (is_same_account p e) piece.sent piece.fee,
+    ))
 
 -- ---- the two balances of a transfer
 

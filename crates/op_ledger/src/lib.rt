@@ -4,10 +4,12 @@
 
 mod book;
 mod indexed;
+mod law;
 mod places;
 #[cfg(test)]
 mod tests;
 mod values;
 
 pub use book::Ledger;
+pub use law::balances_are_sums;
 pub use values::{Balance, LedgerFault, Piece};

@@ -5,6 +5,7 @@ use std::alloc::{AllocError, Global};
 use std::process::Abort;
 
 const ALICE: u32 = 1;
+
 const SHOP: u32 = 2;
 
 // Two assets with their accounts: alice stands in the first, and the shop in the other.
@@ -35,13 +36,23 @@ fn open(
     ledger.open_account(account, asset)
 }
 
-fn deposit(rt: &impl Abort, ledger: &mut Ledger, wallet: u32, value: u64) -> Result<(), LedgerFault> {
+fn deposit(
+    rt: &impl Abort,
+    ledger: &mut Ledger,
+    wallet: u32,
+    value: u64,
+) -> Result<(), LedgerFault> {
     let asset = ledger.asset_of(Account::Wallet(wallet)).expect(rt, "there");
     assert!(rt; ledger.asset_of(Account::Outside(asset)).is_some());
     ledger.deposit(Account::Wallet(wallet), value)
 }
 
-fn withdraw(rt: &impl Abort, ledger: &mut Ledger, wallet: u32, value: u64) -> Result<(), LedgerFault> {
+fn withdraw(
+    rt: &impl Abort,
+    ledger: &mut Ledger,
+    wallet: u32,
+    value: u64,
+) -> Result<(), LedgerFault> {
     let asset = ledger.asset_of(Account::Wallet(wallet)).expect(rt, "there");
     assert!(rt; ledger.asset_of(Account::Outside(asset)).is_some());
     ledger.withdraw(Account::Wallet(wallet), value)
@@ -95,7 +106,12 @@ fn a_total_stops_at_the_largest_value(rt: HostRuntime) -> Result<(), AllocError>
 }
 
 // What a piece needs: that its accounts are there, and that the payer's held covers it.
-fn post(rt: &impl Abort, ledger: &mut Ledger, wallets: (u32, u32), values: (u64, u64, u64)) -> Result<(), LedgerFault> {
+fn post(
+    rt: &impl Abort,
+    ledger: &mut Ledger,
+    wallets: (u32, u32),
+    values: (u64, u64, u64),
+) -> Result<(), LedgerFault> {
     let payer = Account::Wallet(wallets.0);
     let payee = Account::Wallet(wallets.1);
     let source = ledger.asset_of(payer).expect(rt, "there");
@@ -124,14 +140,54 @@ fn free(rt: &impl Abort, ledger: &mut Ledger, wallet: u32, value: u64) {
     ledger.void(account, value);
 }
 
+fn fill_pool(
+    rt: &impl Abort,
+    ledger: &mut Ledger,
+    asset: u32,
+    value: u64,
+) -> Result<(), LedgerFault> {
+    let number = ledger.asset_of(Account::Pool(asset)).expect(rt, "there");
+    assert!(rt; ledger.asset_of(Account::Outside(number)).is_some());
+    ledger.deposit(Account::Pool(asset), value)
+}
+
+// A rate of 3/7: of 100 that are sent in seven pieces the first three deliver 6, 12 and 19.
 #[test]
 fn a_payment_closed_after_three_pieces_frees_the_rest(rt: HostRuntime) -> Result<(), AllocError> {
     let mut ledger = opened(&rt, rt.alloc())?;
-    open(&rt, &mut ledger, Account::Wallet(3), 2)?;
     assert_eq!(rt; deposit(&rt, &mut ledger, ALICE, 200), Ok(()));
     assert_eq!(rt; hold(&rt, &mut ledger, ALICE, 102), Ok(()));
     let dry = Err(LedgerFault::Short { available: 0 });
     assert_eq!(rt; post(&rt, &mut ledger, (ALICE, SHOP), (15, 0, 6)), dry);
     assert_eq!(rt; standing(&rt, &ledger, Account::Wallet(ALICE)), (200, 98));
+    assert_eq!(rt; fill_pool(&rt, &mut ledger, 2, 42), Ok(()));
+    for delivered in [6, 6, 7] {
+        let posted = post(&rt, &mut ledger, (ALICE, SHOP), (15, 0, delivered));
+        assert_eq!(rt; posted, Ok(()));
+    }
+    free(&rt, &mut ledger, ALICE, 57);
+    assert_eq!(rt; standing(&rt, &ledger, Account::Wallet(ALICE)), (155, 155));
+    assert_eq!(rt; standing(&rt, &ledger, Account::Wallet(SHOP)), (19, 19));
+    assert_eq!(rt; standing(&rt, &ledger, Account::Pool(1)), (45, 45));
+    assert_eq!(rt; standing(&rt, &ledger, Account::Pool(2)), (23, 23));
+    assert_eq!(rt; standing(&rt, &ledger, Account::Fees(1)), (0, 0));
+    Ok(())
+}
+
+#[test]
+fn paying_oneself_moves_the_fee_alone(rt: HostRuntime) -> Result<(), AllocError> {
+    let mut ledger = opened(&rt, rt.alloc())?;
+    assert_eq!(rt; deposit(&rt, &mut ledger, ALICE, 1010), Ok(()));
+    assert_eq!(rt; hold(&rt, &mut ledger, ALICE, 1010), Ok(()));
+    assert_eq!(rt;
+        post(&rt, &mut ledger, (ALICE, ALICE), (1000, 10, 1000)),
+        Ok(())
+    );
+    assert_eq!(rt;
+        standing(&rt, &ledger, Account::Wallet(ALICE)),
+        (1000, 1000)
+    );
+    assert_eq!(rt; standing(&rt, &ledger, Account::Fees(1)), (10, 10));
+    assert_eq!(rt; standing(&rt, &ledger, Account::Outside(1)), (1010, 0));
     Ok(())
 }

@@ -42,7 +42,7 @@ invariant_of-self c =
     let w_found : find_balance (put y v.accounts) c.args.target ≡ Some w = subst (λ xs. find_balance xs c.args.target ≡ Some w) after c.balance-to.ensures.found in
     let enough : c.args.value ≤ x.posted - x.held = subst (λ o. c.args.value ≤ option_map_or (λ b. b.posted) o 0 - option_map_or (λ b. b.held) o 0) c.balance-from.ensures.found c.requires.covered in
     subst (λ xs. IsSound (ledger xs)) (sym (c.set-2.ensures ∙ ap (put z) after))
-      (sound_transfer v a c.args.target c.args.value x w c.balance-from.ensures.sound c.balance-from.ensures.found (not_of (is_there v a) (is_outside a) c.requires.source) w_found (not_of (is_there v c.args.target) (is_outside c.args.target) c.requires.target) c.requires.one_asset enough)
+    (sound_transfer v a c.args.target c.args.value x w c.balance-from.ensures.sound c.balance-from.ensures.found (not_of (is_there v a) (is_outside a) c.requires.source) w_found (not_of (is_there v c.args.target) (is_outside c.args.target) c.requires.target) c.requires.one_asset enough)
 
 pub returns : goal.returns
 returns c =

@@ -11,5 +11,5 @@ returns-clause-account c =
     let items = c.self.inside.balances.items in
     let placed = subst (λ o. IsPlaceOf items c.args.account o) (sym c.in-Some.ensures) (c.self.invariant.placed c.args.account) in
     let found : find_balance items c.args.account ≡ Some c.index.result.now =
-      sym placed.1 ∙ slice_get-get_or items c.in-Some.place c.index.result.now placed.0 ∙ ap (λ b. Some b) (sym c.index.ensures) in
+    sym placed.1 ∙ slice_get-get_or items c.in-Some.place c.index.result.now placed.0 ∙ ap (λ b. Some b) (sym c.index.ensures) in
     found_account items c.args.account c.index.result.now found

@@ -13,5 +13,5 @@ invariant_of-self-in-Ok c =
     let free : not (is_some (find_balance old.balances.items account)) ≡ true = subst (λ v. not (is_some (find_balance v account)) ≡ true) (sym c.self.view_is) c.requires in
     let fresh : find_balance old.balances.items account ≡ None = nothing_is (find_balance old.balances.items account) free in
     let also : PlacesAlso old.places c.insert.new.self account (length old.balances.items) =
-      subst (λ n. PlacesAlso old.places c.insert.new.self account n) (c.len-place.ensures ∙ old.balances.ok.0) c.in-Ok.ensures.ok in
+    subst (λ n. PlacesAlso old.places c.insert.new.self account n) (c.len-place.ensures ∙ old.balances.ok.0) c.in-Ok.ensures.ok in
     subst (λ items. IsIndexed c.insert.new.self items) (sym c.in_ok-push.ensures.items) (indexed-append old.places c.insert.new.self old.balances.items c.args.balance c.self.invariant also fresh)
