@@ -1,6 +1,6 @@
 -- What movements make of a ledger.
-use Rattle.std.proofs.Common.{◌≡◌, ℕ, zero, suc, ◌+◌, ◌-◌, ◌<◌, ◌≤◌, Bool, true, false, cond, List, [], ◌∷◌, ◌++◌, length, map, sum_by, refl, sym, ap, subst, ◌∙◌, arith, zero-add}
-use Rattle.std.specs.Prelude.{Some, None, slice_get, if◌then◌else◌}
+use Rattle.std.proofs.Common.{◌≡◌, ℕ, ◌+◌, ◌-◌, ◌≤◌, Bool, true, false, cond, List, [], ◌∷◌, ◌++◌, refl, sym, ap, subst, ◌∙◌, arith, zero-add}
+use Rattle.std.specs.Prelude.{Some, slice_get, if◌then◌else◌}
 use Rattle.std.specs.Option.{option_map_or}
 use Rattle.std.proofs.lemmas.List.Sums.{sum_by-append}
 use Rattle.std.proofs.lemmas.Simd.{map-map}
@@ -8,7 +8,7 @@ use Rattle.op_model.specs.Balances.{Movement, comes, goes, came_to, went_from, i
 use Rattle.op_model.specs.declared.act.Account.{Account}
 use Rattle.op_model.specs.declared.act.Account.TheVariants.{Outside}
 use Rattle.op_ledger.specs.declared.values.Balance.{Balance}
-use Rattle.op_ledger.specs.Balances.{LedgerValue, find_balance, balance_of, asset_in, is_outside, moved_balance, moved, with_held, holding, deposit_legs, withdrawal_legs, transfer_legs}
+use Rattle.op_ledger.specs.Balances.{LedgerValue, find_balance, balance_of, is_outside, moved_balance, moved, with_held, holding, deposit_legs, withdrawal_legs, transfer_legs}
 use Rattle.op_ledger.specs.Indexed.{AreDistinct, put_at, put}
 use Rattle.op_ledger.proofs.Replaced.{map_same}
 use Rattle.op_ledger.proofs.AccountTests.{account_is, is_account, is_same_account-sym, not_outside}

@@ -1,12 +1,11 @@
 -- What stands before the movements of a piece.
-use Rattle.std.proofs.Common.{◌≡◌, ℕ, ◌+◌, ◌-◌, ◌<◌, ◌≤◌, Bool, true, false, cond, refl, sym, ap, subst, ◌∙◌, arith}
-use Rattle.std.specs.Prelude.{Some, not, ◌&&◌, ◌||◌, ◌==◌, IsTrue}
+use Rattle.std.proofs.Common.{◌≡◌, ℕ, ◌-◌, ◌≤◌, Bool, true, false, cond, sym, ap, subst, ◌∙◌, arith}
+use Rattle.std.specs.Prelude.{not, ◌&&◌, ◌||◌, ◌==◌, IsTrue}
 use Rattle.std.specs.Option.{option_map_or}
 use Rattle.std.proofs.lemmas.Bool.Decides.{nat_tests}
 use Rattle.op_model.specs.Balances.{is_same_account}
 use Rattle.op_model.specs.declared.act.Account.{Account}
 use Rattle.op_model.specs.declared.act.Account.TheVariants.{Pool, Fees}
-use Rattle.op_ledger.specs.declared.values.Balance.{Balance}
 use Rattle.op_ledger.specs.declared.values.Piece.{Piece}
 use Rattle.op_ledger.specs.Balances.{LedgerValue, balance_of, is_there, posted_in, held_in, available_in, asset_in, is_outside, IsInside, IsNumbered, with_held, holding}
 use Rattle.op_ledger.specs.Sound.{IsSound}

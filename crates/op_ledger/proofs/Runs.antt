@@ -1,30 +1,25 @@
 -- Balances behind a list of calls.
-use Rattle.std.proofs.Common.{◌≡◌, ℕ, zero, suc, ◌+◌, ◌-◌, ◌<◌, ◌≤◌, Bool, true, false, cond, List, [], ◌∷◌, ◌++◌, length, map, sum_by, refl, sym, ap, subst, ◌∙◌, arith}
-use Rattle.std.specs.Prelude.{Some, None, not, ◌&&◌, ◌||◌, ◌==◌, IsTrue, nat_lt, if◌then◌else◌}
-use Rattle.std.specs.List.{find, flat_map}
-use Rattle.std.specs.Option.{option_map_or, option_or, is_some}
-use Rattle.std.specs.declared.option.Option.{Option}
-use Rattle.std.proofs.lemmas.List.Sums.{sum_by-cons}
-use Rattle.std.proofs.lemmas.List.Folds.{find-append}
+use Rattle.std.proofs.Common.{◌≡◌, ℕ, ◌+◌, ◌-◌, ◌≤◌, Bool, true, false, cond, refl, sym, ap, subst, ◌∙◌, arith}
+use Rattle.std.specs.Prelude.{Some, not, ◌&&◌, ◌==◌, nat_lt}
+use Rattle.std.specs.Option.{option_map_or}
 use Rattle.std.proofs.lemmas.Bool.Decides.{nat_tests}
 use Rattle.op_amount.specs.declared.TheConstants.{TOP}
-use Rattle.op_model.specs.Balances.{Movement, comes, goes, came_to, went_from, is_same_account}
+use Rattle.op_model.specs.Balances.{is_same_account}
 use Rattle.op_model.specs.declared.act.Account.{Account}
 use Rattle.op_model.specs.declared.act.Account.TheVariants.{Outside, Pool, Fees}
 use Rattle.op_ledger.specs.declared.values.Balance.{Balance}
 use Rattle.op_ledger.specs.declared.values.Piece.{Piece}
-use Rattle.op_ledger.specs.Balances.{LedgerValue, find_balance, balance_of, is_there, is_outside, IsInside, posted_in, held_in, available_in, asset_in, total_in, moved_balance, moved, holding, opened, transfer_legs, deposit_legs, withdrawal_legs}
-use Rattle.op_ledger.specs.Indexed.{put_at, put}
+use Rattle.op_ledger.specs.Balances.{LedgerValue, find_balance, balance_of, is_there, is_outside, IsInside, available_in, asset_in, total_in, moved, holding, transfer_legs}
+use Rattle.op_ledger.specs.Indexed.{put}
 use Rattle.op_ledger.specs.Sound.{IsSound, backing}
-use Rattle.op_ledger.specs.Pieces.{within_legs, between_legs, piece_legs, taken, with_piece, is_within_one_asset, are_pools_there, lacks_liquidity, CanMoveWithin, CanMoveBetween}
-use Rattle.op_ledger.specs.Runs.{Call, Opened, Deposited, Withdrawn, Held, Posted, Voided, CanPost, CanCall, after_call, AreCalls, after_calls, no_accounts, call_legs, calls_legs, held_by, freed_by, AreSums, BalancesAreSums}
-use Rattle.op_ledger.proofs.AccountTests.{account_is, is_account, is_same_account-sym, left_of, right_of, not_of, not_outside}
-use Rattle.op_ledger.proofs.Index.{found_account, find_balance-map, there_is, nothing_is}
-use Rattle.op_ledger.proofs.Puts.{ledger}
-use Rattle.op_ledger.proofs.Soundness.{sound_held, sound_deposit, sound_withdrawal, sound_opened, covered_of, covered_inside, backing_inside, posted_total}
-use Rattle.op_ledger.proofs.Moves.{holding_is, deposit_is, withdrawal_is, transfer_is, moved_account, moved_outside, came-append, went-append}
-use Rattle.op_ledger.proofs.Transfers.{there-moved, asset-moved, held-moved, posted-moved, there-holding, asset-holding, posted-holding, held-holding, came-comes, went-comes, came-goes, went-goes, there-put, sound_transfer, within_is, between_is, apart_of, apart_assets, stays_there, same_asset, available_source, available_other}
-use Rattle.op_ledger.proofs.Posting.{can_move_within, can_move_between, held_posted}
+use Rattle.op_ledger.specs.Pieces.{within_legs, between_legs, taken, is_within_one_asset, CanMoveWithin, CanMoveBetween}
+use Rattle.op_ledger.specs.Runs.{Call, Opened, Deposited, Withdrawn, Held, Posted, Voided, CanPost, CanCall, after_call}
+use Rattle.op_ledger.proofs.AccountTests.{left_of, not_of}
+use Rattle.op_ledger.proofs.Index.{found_account, there_is, nothing_is}
+use Rattle.op_ledger.proofs.Soundness.{sound_held, sound_deposit, sound_withdrawal, sound_opened, covered_of, covered_inside, backing_inside}
+use Rattle.op_ledger.proofs.Moves.{holding_is, deposit_is, withdrawal_is, transfer_is}
+use Rattle.op_ledger.proofs.Transfers.{there-moved, asset-moved, there-put, sound_transfer, within_is, between_is, apart_assets, stays_there, same_asset, available_source, available_other}
+use Rattle.op_ledger.proofs.Posting.{can_move_within, can_move_between}
 
 -- ---- sound behind each call
 

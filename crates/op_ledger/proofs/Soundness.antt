@@ -1,8 +1,7 @@
 -- Ledgers stay sound.
-use Rattle.std.proofs.Common.{◌≡◌, ℕ, zero, suc, ◌+◌, ◌-◌, ◌<◌, ◌≤◌, Bool, true, false, cond, List, [], ◌∷◌, ◌++◌, length, map, sum_by, refl, sym, ap, subst, ◌∙◌, arith}
-use Rattle.std.specs.Prelude.{Some, None, not, ◌&&◌, ◌==◌, All, if◌then◌else◌}
-use Rattle.std.specs.List.{find}
-use Rattle.std.specs.Option.{option_map, option_map_or, option_or}
+use Rattle.std.proofs.Common.{◌≡◌, ℕ, zero, suc, ◌+◌, ◌-◌, ◌≤◌, Bool, true, false, cond, List, [], ◌∷◌, refl, sym, ap, subst, ◌∙◌, arith}
+use Rattle.std.specs.Prelude.{Some, None, not, ◌&&◌, ◌==◌, All}
+use Rattle.std.specs.Option.{option_map_or, option_or}
 use Rattle.std.specs.declared.option.Option.{Option}
 use Rattle.std.proofs.lemmas.List.Sums.{sum_by-append}
 use Rattle.std.proofs.lemmas.List.Folds.{find-append}
@@ -16,7 +15,7 @@ use Rattle.op_ledger.specs.declared.values.Balance.{Balance}
 use Rattle.op_ledger.specs.Balances.{LedgerValue, find_balance, balance_of, is_outside, total_in, IsNumbered, opened}
 use Rattle.op_ledger.specs.Indexed.{AreDistinct, put_at, put}
 use Rattle.op_ledger.specs.Sound.{backing, inside_part, inside, IsSound}
-use Rattle.op_ledger.proofs.AccountTests.{account_is, is_same_account-sym, not_outside}
+use Rattle.op_ledger.proofs.AccountTests.{not_outside}
 use Rattle.op_ledger.proofs.Index.{found_account, distinct-map, distinct-append, put_keeps}
 use Rattle.op_ledger.proofs.Puts.{ledger, find_balance-put, total-put_inside, total-put_outside, total-put_held, inside-put, part_outside, part_inside, posted_inside, All-put, All-found}
 

@@ -1,27 +1,24 @@
 -- Balances as sums over calls.
-use Rattle.std.proofs.Common.{◌≡◌, ℕ, zero, suc, ◌+◌, ◌-◌, ◌<◌, ◌≤◌, Bool, true, false, cond, List, [], ◌∷◌, ◌++◌, length, map, sum_by, refl, sym, ap, subst, ◌∙◌, arith, zero-add}
-use Rattle.std.specs.Prelude.{Some, None, not, ◌&&◌, ◌==◌, if◌then◌else◌}
-use Rattle.std.specs.List.{flat_map}
+use Rattle.std.proofs.Common.{◌≡◌, ℕ, ◌+◌, ◌-◌, ◌≤◌, Bool, true, false, cond, List, [], ◌∷◌, sum_by, refl, sym, ap, subst, ◌∙◌, arith, zero-add}
+use Rattle.std.specs.Prelude.{Some, None, not, ◌==◌, if◌then◌else◌}
 use Rattle.std.specs.Option.{option_map, option_map_or, option_or, is_some}
 use Rattle.std.specs.declared.option.Option.{Option}
 use Rattle.std.proofs.lemmas.List.Sums.{sum_by-cons}
 use Rattle.std.proofs.lemmas.List.Folds.{find-append}
-use Rattle.op_amount.specs.declared.TheConstants.{TOP}
 use Rattle.op_model.specs.Balances.{Movement, comes, goes, came_to, went_from, is_same_account}
 use Rattle.op_model.specs.declared.act.Account.{Account}
 use Rattle.op_model.specs.declared.act.Account.TheVariants.{Outside, Pool, Fees}
 use Rattle.op_ledger.specs.declared.values.Balance.{Balance}
 use Rattle.op_ledger.specs.declared.values.Piece.{Piece}
-use Rattle.op_ledger.specs.Balances.{LedgerValue, balance_of, is_there, is_outside, IsInside, posted_in, held_in, available_in, asset_in, total_in, moved_balance, moved, holding, opened, deposit_legs, withdrawal_legs}
+use Rattle.op_ledger.specs.Balances.{LedgerValue, balance_of, is_there, is_outside, IsInside, posted_in, held_in, asset_in, total_in, moved_balance, moved, holding, opened, deposit_legs, withdrawal_legs}
 use Rattle.op_ledger.specs.Sound.{IsSound}
 use Rattle.op_ledger.specs.Pieces.{within_legs, between_legs, taken, is_within_one_asset, CanMoveWithin, CanMoveBetween}
-use Rattle.op_ledger.specs.Runs.{Call, Opened, Deposited, Withdrawn, Held, Posted, Voided, CanPost, CanCall, after_call, AreCalls, after_calls, no_accounts, call_legs, calls_legs, held_by, freed_by, AreSums, BalancesAreSums}
+use Rattle.op_ledger.specs.Runs.{Call, Opened, Deposited, Withdrawn, Held, Posted, Voided, CanPost, CanCall, after_call, AreCalls, after_calls, no_accounts, call_legs, calls_legs, held_by, freed_by, BalancesAreSums}
 use Rattle.op_ledger.proofs.AccountTests.{account_is, is_same_account-sym, left_of, not_of, not_outside}
 use Rattle.op_ledger.proofs.Index.{found_account, find_balance-map, there_is}
 use Rattle.op_ledger.proofs.Soundness.{posted_total}
 use Rattle.op_ledger.proofs.Moves.{moved_account, moved_outside, came-append, went-append}
-use Rattle.op_ledger.proofs.Transfers.{there-moved, asset-moved, held-moved, posted-moved, there-holding, asset-holding, posted-holding, held-holding, came-comes, went-comes, came-goes, went-goes, apart_of, apart_assets}
-use Rattle.op_ledger.proofs.Posting.{held_posted}
+use Rattle.op_ledger.proofs.Transfers.{there-moved, asset-moved, held-moved, posted-moved, there-holding, asset-holding, posted-holding, held-holding, came-comes, went-comes, came-goes, went-goes, apart_assets}
 use Rattle.op_ledger.proofs.Runs.{sound_call, within_can, between_can}
 
 -- ---- accounts that are not there

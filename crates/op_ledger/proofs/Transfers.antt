@@ -1,5 +1,5 @@
 -- Values that go from one account to another.
-use Rattle.std.proofs.Common.{◌≡◌, ℕ, zero, suc, ◌+◌, ◌-◌, ◌<◌, ◌≤◌, Bool, true, false, cond, List, [], ◌∷◌, ◌++◌, length, map, sum_by, refl, sym, ap, subst, ◌∙◌, arith}
+use Rattle.std.proofs.Common.{◌≡◌, ℕ, ◌+◌, ◌-◌, ◌≤◌, Bool, true, false, cond, List, [], ◌∷◌, ◌++◌, refl, sym, ap, subst, ◌∙◌, arith}
 use Rattle.std.specs.Prelude.{Some, None, not, ◌&&◌, ◌==◌, slice_get, if◌then◌else◌}
 use Rattle.std.specs.Option.{option_map, option_map_or, is_some}
 use Rattle.std.specs.declared.option.Option.{Option}
@@ -8,10 +8,10 @@ use Rattle.std.proofs.lemmas.Bool.Decides.{nat_tests}
 use Rattle.op_amount.specs.declared.TheConstants.{TOP}
 use Rattle.op_model.specs.Balances.{Movement, comes, goes, came_to, went_from, is_same_account}
 use Rattle.op_model.specs.declared.act.Account.{Account}
-use Rattle.op_model.specs.declared.act.Account.TheVariants.{Outside, Pool, Fees}
+use Rattle.op_model.specs.declared.act.Account.TheVariants.{Pool, Fees}
 use Rattle.op_ledger.specs.declared.values.Balance.{Balance}
 use Rattle.op_ledger.specs.declared.values.Piece.{Piece}
-use Rattle.op_ledger.specs.Balances.{LedgerValue, find_balance, balance_of, is_there, posted_in, held_in, available_in, asset_in, total_in, is_outside, IsNumbered, moved_balance, moved, with_held, holding, transfer_legs}
+use Rattle.op_ledger.specs.Balances.{LedgerValue, find_balance, balance_of, is_there, posted_in, held_in, available_in, asset_in, is_outside, moved_balance, moved, with_held, holding, transfer_legs}
 use Rattle.op_ledger.specs.Indexed.{AreDistinct, put_at, put}
 use Rattle.op_ledger.specs.Sound.{inside, inside_part, IsSound}
 use Rattle.op_ledger.specs.Pieces.{within_legs, between_legs}
@@ -19,7 +19,7 @@ use Rattle.op_ledger.proofs.Replaced.{map_same}
 use Rattle.op_ledger.proofs.AccountTests.{account_is, is_account, is_same_account-sym}
 use Rattle.op_ledger.proofs.Index.{found_account, find_balance-map, put_keeps, there_is}
 use Rattle.op_ledger.proofs.Puts.{ledger, find_balance-put, inside-put, part_inside, posted_inside}
-use Rattle.op_ledger.proofs.Soundness.{sound_between, covered_inside, numbered_of}
+use Rattle.op_ledger.proofs.Soundness.{sound_between, covered_inside}
 use Rattle.op_ledger.proofs.Moves.{same_found, moved_inside, moved_account, moved-append, IsCovered}
 
 -- ---- what movements and holds leave

@@ -1,7 +1,6 @@
 -- A piece that a ledger posts.
 use Rattle.std.specs.Prelude.{ℕ, ◌≡◌, ◌≢◌, ◌≤◌, ◌+◌, ◌-◌, Bool, IsTrue, not, ◌&&◌, ◌||◌, ◌==◌, nat_lt, List, [], ◌∷◌, if◌then◌else◌}
 use Rattle.op_model.specs.Balances.{Movement, comes, goes}
-use Rattle.op_model.specs.declared.act.Account.{Account}
 use Rattle.op_model.specs.declared.act.Account.TheVariants.{Fees, Pool}
 use Rattle.op_ledger.specs.Balances.{LedgerValue, is_there, IsInside, asset_in, available_in, moved, holding}
 use Rattle.op_ledger.specs.Indexed.{AreDistinct}

@@ -1,5 +1,5 @@
 -- Lists of calls: what is posted and held is the sum over them.
-use Rattle.std.specs.Prelude.{ℕ, ◌≡◌, ◌≤◌, ◌+◌, ◌-◌, Bool, false, not, ◌==◌, IsTrue, if◌then◌else◌, List, [], ◌∷◌, sum_by}
+use Rattle.std.specs.Prelude.{ℕ, ◌≡◌, ◌≤◌, ◌+◌, ◌-◌, false, not, ◌==◌, IsTrue, if◌then◌else◌, List, [], ◌∷◌, sum_by}
 use Rattle.std.specs.List.{flat_map}
 use Rattle.op_amount.specs.declared.TheConstants.{TOP}
 use Rattle.op_model.specs.Balances.{Movement, comes, goes, came_to, went_from, is_same_account}

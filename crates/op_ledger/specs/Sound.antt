@@ -1,5 +1,5 @@
 -- What holds of every ledger.
-use Rattle.std.specs.Prelude.{ℕ, ◌≡◌, ◌≤◌, Bool, not, ◌&&◌, ◌==◌, if◌then◌else◌, sum_by, All}
+use Rattle.std.specs.Prelude.{ℕ, ◌≡◌, ◌≤◌, not, ◌&&◌, ◌==◌, if◌then◌else◌, sum_by, All}
 use Rattle.op_amount.specs.declared.TheConstants.{TOP}
 use Rattle.op_ledger.specs.declared.values.Balance.{Balance}
 use Rattle.op_ledger.specs.Balances.{LedgerValue, is_outside, IsNumbered, total_in}

@@ -17,8 +17,8 @@ use std::marker::Model;
 /// account, in the order of opening, with what is posted and held on it.
 ///
 /// In every asset what stands in the pool, the fees and the wallets together is the total, by which the outside stands
-/// below zero; no other account has less than zero available, and no total passes 10^18. A refused call leaves all as
-/// it was. No call but `open_account` takes memory.
+/// below zero; no other account has less than zero available, and no total passes 10^18. Each call that only reads says
+/// so (`IsSound`). A refused call leaves all as it was. No call but `open_account` takes memory.
 #[derive(Drop)]
 pub struct Ledger {
     accounts: Accounts,
@@ -185,7 +185,8 @@ impl Ledger {
 
     /// The asset in which an account stands, if it is there.
     pub fn asset_of(&self, account: Account) -> Option<u32>
-        ensures { result ≡ option_map (λ b. b.asset) (balance_of self.now account) }
+        ensures value { result ≡ option_map (λ b. b.asset) (balance_of self.now account) }
+        ensures sound { IsSound self.now }
     {
         self.accounts.find(account).map(|balance| balance.asset)
     }
@@ -195,6 +196,7 @@ impl Ledger {
         requires { IsInside self.now account }
         ensures value { result ≡ posted_in self.now account }
         ensures at_most { result ≤ TOP }
+        ensures sound { IsSound self.now }
     {
         self.balance(account).posted
     }
@@ -204,6 +206,7 @@ impl Ledger {
         requires { IsInside self.now account }
         ensures value { result ≡ available_in self.now account }
         ensures covered { result + held_in self.now account ≡ posted_in self.now account }
+        ensures sound { IsSound self.now }
     {
         let balance = self.balance(account);
         balance.posted - balance.held
@@ -214,6 +217,7 @@ impl Ledger {
         requires { IsTrue (is_there self.now (Outside asset)) }
         ensures value { result ≡ total_in self.now asset }
         ensures at_most { result ≤ TOP }
+        ensures sound { IsSound self.now }
     {
         self.balance(Account::Outside(asset)).posted
     }

@@ -2,7 +2,7 @@ use Rattle.std.proofs.Common.{◌≡◌, ◌≤◌, false, refl, subst, sym, ◌
 use Rattle.std.specs.Prelude.{IsTrue, ◌&&◌, not}
 use Rattle.op_model.specs.Balances.{is_same_account}
 use Rattle.op_model.specs.declared.act.Account.TheVariants.{Fees, Pool}
-use Rattle.op_ledger.specs.Balances.{LedgerValue, available_in, asset_in, is_there, is_outside, moved, transfer_legs}
+use Rattle.op_ledger.specs.Balances.{available_in, asset_in, is_there, is_outside, moved, transfer_legs}
 use Rattle.op_ledger.proofs.AccountTests.{left_of, not_of, with_inside}
 use Rattle.op_ledger.proofs.Transfers.{stays_there, same_asset, there-moved, asset-moved, available_source, available_other, apart_assets, between_is}
 use Rattle.op_ledger.proofs.book.Ledger.move_between.Goals as goal

@@ -1,7 +1,7 @@
 use Rattle.std.proofs.Common.{◌≡◌, ◌≤◌, subst, sym, ◌∙◌, ap, arith}
 use Rattle.std.specs.Prelude.{IsTrue, ◌&&◌, not}
 use Rattle.op_model.specs.declared.act.Account.TheVariants.{Fees}
-use Rattle.op_ledger.specs.Balances.{LedgerValue, available_in, asset_in, is_there, is_outside, moved, transfer_legs}
+use Rattle.op_ledger.specs.Balances.{available_in, asset_in, is_there, is_outside, moved, transfer_legs}
 use Rattle.op_ledger.proofs.AccountTests.{left_of, not_of}
 use Rattle.op_ledger.proofs.Transfers.{stays_there, same_asset, available_source, within_is}
 use Rattle.op_ledger.proofs.book.Ledger.move_within.Goals as goal

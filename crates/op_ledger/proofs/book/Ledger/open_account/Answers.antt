@@ -1,4 +1,4 @@
-use Rattle.std.proofs.Common.{◌≡◌, true, subst, sym, ◌∙◌, ap}
+use Rattle.std.proofs.Common.{◌≡◌, true, subst, sym}
 use Rattle.std.specs.Prelude.{None, not}
 use Rattle.op_ledger.specs.Balances.{LedgerValue, balance_of, is_there}
 use Rattle.op_ledger.specs.Sound.{IsSound}

@@ -1,7 +1,7 @@
 use Rattle.std.proofs.Common.{◌≡◌, ◌≤◌, subst, sym, ◌∙◌, ap, arith}
 use Rattle.std.specs.Option.{option_map_or}
 use Rattle.op_model.specs.declared.act.Account.TheVariants.{Pool}
-use Rattle.op_ledger.specs.Balances.{LedgerValue, available_in, asset_in}
+use Rattle.op_ledger.specs.Balances.{available_in, asset_in}
 use Rattle.op_ledger.specs.Pieces.{CanMoveWithin, CanMoveBetween}
 use Rattle.op_ledger.proofs.Posting.{can_move_within, can_move_between}
 use Rattle.op_ledger.proofs.book.Ledger.post_part.Goals as goal

@@ -1,7 +1,7 @@
-use Rattle.std.proofs.Common.{◌≡◌, ◌+◌, ◌-◌, ◌≤◌, true, false, subst, sym, ◌∙◌, ap, arith}
+use Rattle.std.proofs.Common.{◌≡◌, ◌+◌, ◌-◌, ◌≤◌, subst, sym, ◌∙◌, ap, arith}
 use Rattle.std.specs.Prelude.{Some}
 use Rattle.std.specs.Option.{is_some, option_map_or}
-use Rattle.op_ledger.specs.Balances.{find_balance, available_in, posted_in, held_in, is_there, is_outside}
+use Rattle.op_ledger.specs.Balances.{find_balance, is_there, is_outside}
 use Rattle.op_ledger.specs.Indexed.{put}
 use Rattle.op_ledger.specs.Sound.{IsSound}
 use Rattle.op_ledger.proofs.AccountTests.{left_of, not_of}

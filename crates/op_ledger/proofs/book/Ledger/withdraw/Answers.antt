@@ -1,8 +1,8 @@
-use Rattle.std.proofs.Common.{◌≡◌, ◌-◌, ◌≤◌, true, false, refl, subst, sym, ◌∙◌, ap, arith}
+use Rattle.std.proofs.Common.{◌≡◌, ◌-◌, false, subst, sym, ◌∙◌, ap, arith}
 use Rattle.std.specs.Prelude.{Some}
 use Rattle.std.specs.Option.{is_some}
 use Rattle.op_model.specs.declared.act.Account.TheVariants.{Outside}
-use Rattle.op_ledger.specs.Balances.{LedgerValue, find_balance, balance_of, is_there, is_outside}
+use Rattle.op_ledger.specs.Balances.{find_balance, balance_of, is_there, is_outside}
 use Rattle.op_ledger.specs.Indexed.{put}
 use Rattle.op_ledger.specs.Sound.{IsSound}
 use Rattle.op_ledger.proofs.AccountTests.{not_of}
