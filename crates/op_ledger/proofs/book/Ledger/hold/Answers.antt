@@ -1,0 +1,34 @@
+use Rattle.std.proofs.Common.{◌≡◌, ◌+◌, ◌≤◌, false, refl, subst, sym, ◌∙◌, ap, arith}
+use Rattle.std.specs.Prelude.{Some}
+use Rattle.op_ledger.specs.Balances.{balance_of, is_there, is_outside}
+use Rattle.op_ledger.specs.Indexed.{put}
+use Rattle.op_ledger.specs.Sound.{IsSound, backing}
+use Rattle.op_ledger.proofs.AccountTests.{not_of}
+use Rattle.op_ledger.proofs.Puts.{ledger}
+use Rattle.op_ledger.proofs.Soundness.{sound_held, covered_inside, backing_inside}
+use Rattle.op_ledger.proofs.Moves.{holding_is}
+use Rattle.op_ledger.proofs.book.Ledger.hold.Goals as goal
+
+pub overflow_sub-available : goal.overflow_sub-available
+overflow_sub-available c =
+    let x = c.balance-balance in
+    covered_inside c.args.self.now c.args.account x.result x.ensures.sound x.ensures.found (not_of (is_there c.args.self.now c.args.account) (is_outside c.args.account) c.requires)
+
+pub invariant_of-self : goal.invariant_of-self
+invariant_of-self c =
+    let v = c.args.self.now in
+    let x = c.balance-balance.result in
+    let sound = c.balance-balance.ensures.sound in
+    let inside : is_outside c.args.account ≡ false = not_of (is_there v c.args.account) (is_outside c.args.account) c.requires in
+    let found : balance_of v x.account ≡ Some x = subst (λ a. balance_of v a ≡ Some x) (sym c.balance-balance.ensures.account) c.balance-balance.ensures.found in
+    let after : c.set.new.self ≡ put (record x { held = x.held + c.args.value }) v.accounts = c.set.ensures ∙ ap (λ w. put (record x { held = x.held + c.args.value }) w.accounts) c.self.view_is in
+    let backed : backing x ≡ x.posted = backing_inside x (ap is_outside c.balance-balance.ensures.account ∙ inside) in
+    let covered : x.held + c.args.value ≤ backing x = omega (arith, backed, covered_inside v c.args.account x sound c.balance-balance.ensures.found inside) in
+    subst (λ xs. IsSound (ledger xs)) (sym after) (sound_held v x (x.held + c.args.value) sound found covered)
+
+pub returns-clause-ok : goal.returns-clause-ok
+returns-clause-ok c =
+    let v = c.args.self.now in
+    let x = c.balance-balance.result in
+    let after : c.set.new.self ≡ put (record x { held = x.held + c.args.value }) v.accounts = c.set.ensures ∙ ap (λ w. put (record x { held = x.held + c.args.value }) w.accounts) c.self.view_is in
+    ap ledger after ∙ holding_is v c.args.account x (x.held + c.args.value) (λ h. h + c.args.value) c.balance-balance.ensures.sound.distinct c.balance-balance.ensures.found refl
