@@ -10,10 +10,7 @@ use Rattle.hex.specs.Hex.{encode_lower, lower_digits}
 use Rattle.hex.proofs.HexLemmas.{IsAscii-encode_with}
 use Rattle.op_names.specs.Ids.{hex_of, id_text, kind_number}
 use Rattle.op_names.specs.declared.Id.{Id}
-
-both : (a b : Bool) → (a && b) ≡ true → (a ≡ true) × (b ≡ true)
-both true b h = (refl, h)
-both false b h = absurd (let no : false ≡ true = h in cc)
+use Rattle.op_hooks.proofs.Tests.{both}
 
 below : (b : ℕ) → nat_lt b 128 ≡ true → b < 128
 below b h = search (rules, tests)

@@ -1,6 +1,9 @@
 -- The numbers of the items that pass a test.
-use Rattle.std.proofs.Common.{◌≡◌, refl, sym, ap, subst, ◌∙◌, ℕ, zero, suc, ◌+◌, ◌≤◌, Bool, true, false, cond, List, [], ◌∷◌, ◌++◌, length, map, arith, add-zero, inl, inr, Some, None}
+use Rattle.std.proofs.Common.{◌≡◌, refl, sym, ap, subst, ◌∙◌, ℕ, zero, suc, ◌+◌, ◌≤◌, Bool, true, false, cond, List, [], ◌∷◌, ◌++◌, length, map, arith, take, drop, add-zero, inl, inr, Some, None}
 use Rattle.std.specs.Prelude.{◌==◌, ◌&&◌, not, filter, slice_get}
+use Rattle.std.proofs.Math.Seq.{take-append_seam}
+use Rattle.std.proofs.lemmas.List.{take-append-drop, take_all}
+use Rattle.std.proofs.lemmas.List.Elements.{filter-append}
 use Rattle.std.specs.List.{enumerate_from, filter_map, cons_option}
 use Rattle.std.specs.Option.{option_map_or}
 use Rattle.std.proofs.lemmas.Bool.{cases_Bool}
@@ -91,3 +94,19 @@ length-from test b (x ∷ xs) = shorter (test x) b (length xs) _ (length-from te
 
 pub length-numbers_where : {X : Type 0} (test : X → Bool) (xs : List X) → length (numbers_where test xs) ≤ length xs
 length-numbers_where test xs = length-from test 1 xs
+
+-- ---- the first of those that pass
+
+split_at : {X : Type 0} (p : X → Bool) (xs got : List X) (i : ℕ) → got ≡ filter p (take i xs) → filter p xs ≡ got ++ filter p (drop i xs)
+split_at p xs got i is =
+    ap (filter p) (sym (take-append-drop i xs)) ∙ filter-append p (take i xs) (drop i xs) ∙ ap (λ ys. ys ++ filter p (drop i xs)) (sym is)
+
+pub first_passing : {X : Type 0} (p : X → Bool) (xs got : List X) (i room : ℕ) → got ≡ filter p (take i xs) → length got ≡ room → got ≡ take room (filter p xs)
+first_passing p xs got i room is full =
+    let rest = filter p (drop i xs) in
+    sym (ap (take room) (split_at p xs got i is) ∙ ap (λ n. take n (got ++ rest)) (sym full) ∙ take-append_seam got rest)
+
+pub all_passing : {X : Type 0} (p : X → Bool) (xs got : List X) (i room : ℕ) → got ≡ filter p (take i xs) → length xs ≤ i → length got ≤ room → got ≡ take room (filter p xs)
+all_passing p xs got i room is all few =
+    let whole : filter p xs ≡ got = sym (is ∙ ap (filter p) (take_all i xs all)) in
+    sym (ap (take room) whole ∙ take_all room got few)

@@ -1,7 +1,7 @@
 //! An event, and how often it was tried.
-ghost use Rattle.std.specs.Prelude.{◌≡◌, ◌<◌, ◌-◌, ◌*◌, ◌^◌};
+ghost use Rattle.std.specs.Prelude.{◌≡◌, ◌<◌, ◌^◌, IsTrue};
 ghost use Rattle.op_model.specs.Events.{is_taken, attempt_limit};
-ghost use Rattle.op_hooks.specs.Due.{is_due_at, is_open, delay, untried, tried_once};
+ghost use Rattle.op_hooks.specs.Due.{is_due_at, is_open, delay, tried_once};
 
 use op_model::EventRow;
 use op_time::Moment;
@@ -46,16 +46,6 @@ fn delay(tries: u8) -> u64
 }
 
 impl Event {
-    pub(crate) fn untried(row: EventRow) -> Event
-        ensures { result ≡ untried row }
-    {
-        Event {
-            row,
-            tries: 0,
-            last: None,
-        }
-    }
-
     // With one more attempt.
     pub(crate) fn tried_once(&self, t: Moment, outcome: u16) -> Event
         requires { self.now.tries < attempt_limit }
@@ -84,7 +74,8 @@ impl Event {
     /// Whether another attempt is due at a moment: the first from the event's own moment on; behind a failed one after
     /// 10 seconds, and then after twice as long each time; none behind one that was taken, and none behind ten.
     pub fn is_due_at(&self, t: Moment) -> bool
-        ensures { result ≡ is_due_at t self.now }
+        ensures value { result ≡ is_due_at t self.now }
+        ensures only_open { IsTrue result → IsTrue (is_open self.now) }
     {
         if self.tries >= ATTEMPT_LIMIT {
             return false;

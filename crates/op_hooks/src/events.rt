@@ -1,5 +1,5 @@
 //! Events by number, and how often each was tried.
-ghost use Rattle.std.specs.Prelude.{◌≡◌, ◌<◌, ◌≤◌, ◌++◌, [], length, IsTrue, OnOk, OnErr, option_map};
+ghost use Rattle.std.specs.Prelude.{◌≡◌, ◌<◌, ◌≤◌, ◌++◌, [], length, IsTrue, OnOk, OnErr, IfOk, option_map};
 ghost use Rattle.std.specs.Bool.{OnTrue, OnFalse};
 ghost use Rattle.std.specs.Option.{option_copied};
 ghost use Rattle.op_model.specs.History.{nth};
@@ -70,6 +70,7 @@ impl Events {
     {
         let number = self.kept.len() as u64 + 1;
         self.unfinished.push_reserved(number);
+        // The body is named, so that the checker knows the type of what a row holds.
         self.kept.push_reserved(Event {
             row: EventRow {
                 body: event.body,
@@ -93,14 +94,23 @@ impl Events {
         ensures ok { OnOk result (out.new.items ≡ out.old.items ++ due_events self.now t room) }
         ensures err { OnErr result (out.new.items ≡ out.old.items) }
     {
-        let due: Vec<u64> = self
-            .unfinished
-            .iter()
-            .copied()
-            .filter(|number| self.is_due(*number, t))
-            .take(room)
-            .collect(alloc)?;
+        let due = self.first_due(alloc, t, room)?;
         out.extend_from_slice(&due)
+    }
+
+    fn first_due(&self, alloc: Global, t: Moment, room: usize) -> Result<Vec<u64>, AllocError>
+        ensures { IfOk result (λ due. due.items ≡ due_events self.now t room) }
+    {
+        let mut due = Vec::new(alloc);
+        for number in &self.unfinished {
+            if due.len() == room {
+                return Ok(due);
+            }
+            if self.is_due(*number, t) {
+                due.push(*number)?;
+            }
+        }
+        Ok(due)
     }
 
     // Whether an attempt of an event is due.

@@ -4,6 +4,8 @@
 mod event;
 mod events;
 mod messages;
+#[cfg(test)]
+mod tests;
 
 pub use event::{Event, Tried};
 pub use events::Events;
