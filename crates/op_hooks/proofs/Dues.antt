@@ -1,6 +1,6 @@
 -- What is due, and what an attempt changes.
-use Rattle.std.proofs.Common.{◌≡◌, refl, sym, ap, subst, ◌∙◌, ℕ, zero, suc, ◌-◌, ◌<◌, ◌≤◌, Bool, true, false, List, length, get_or, arith, IsTrue}
-use Rattle.std.specs.Prelude.{◌&&◌, not, Some, None, is_some, slice_get, nat_le}
+use Rattle.std.proofs.Common.{◌≡◌, refl, sym, ap, subst, ◌∙◌, ℕ, zero, suc, ◌-◌, ◌<◌, Bool, true, false, List, length, get_or, arith, IsTrue}
+use Rattle.std.specs.Prelude.{◌&&◌, not, Some, None, is_some, nat_le}
 use Rattle.std.specs.Option.{option_map_or}
 use Rattle.std.specs.declared.option.Option.{Option}
 use Rattle.std.proofs.lemmas.Option.{slice_get-get_or}
@@ -11,7 +11,7 @@ use Rattle.op_hooks.specs.Due.{is_due_at, is_open, attempt_of, tried_once}
 use Rattle.op_hooks.specs.Value.{EventsValue, attempted}
 use Rattle.op_hooks.specs.declared.event.Event.{Event}
 use Rattle.op_hooks.specs.declared.event.Tried.{Tried}
-use Rattle.op_hooks.proofs.Tests.{both}
+use Rattle.op_hooks.proofs.Joint.{both}
 
 open_if : (below : Bool) (last : Option Tried) (may due : Tried → Bool) (first : Bool) → ((tried : Tried) → due tried ≡ true → may tried ≡ true) → (below && option_map_or due last first) ≡ true → (below && option_map_or may last true) ≡ true
 open_if true None may due first each h = refl

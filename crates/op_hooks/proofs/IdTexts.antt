@@ -1,6 +1,6 @@
 -- The texts of identifiers are ASCII.
-use Rattle.std.proofs.Common.{ℕ, ◌-◌, ◌<◌, List, [], ◌∷◌, ◌++◌, codes, Bool, true, false, refl, ◌≡◌, rules, tests}
-use Rattle.std.specs.Prelude.{◌&&◌, nat_lt}
+use Rattle.std.proofs.Common.{ℕ, ◌-◌, ◌<◌, List, [], ◌∷◌, ◌++◌, codes, true, refl, ◌≡◌, rules, tests}
+use Rattle.std.specs.Prelude.{nat_lt}
 use Rattle.std.specs.List.{list_all}
 use Rattle.std.specs.Int.{to_be_bytes, w64}
 use Rattle.std.specs.Str.{IsAscii, IsUtf8}
@@ -10,7 +10,7 @@ use Rattle.hex.specs.Hex.{encode_lower, lower_digits}
 use Rattle.hex.proofs.HexLemmas.{IsAscii-encode_with}
 use Rattle.op_names.specs.Ids.{hex_of, id_text, kind_number}
 use Rattle.op_names.specs.declared.Id.{Id}
-use Rattle.op_hooks.proofs.Tests.{both}
+use Rattle.op_hooks.proofs.Joint.{both}
 
 below : (b : ℕ) → nat_lt b 128 ≡ true → b < 128
 below b h = search (rules, tests)

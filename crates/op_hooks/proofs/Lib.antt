@@ -2,4 +2,4 @@ pub mod Dues
 pub mod IdTexts
 pub mod Joined
 pub mod Numbers
-pub mod Tests
+pub mod Joint

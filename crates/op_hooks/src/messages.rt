@@ -1,6 +1,6 @@
 //! Webhook messages: a POST request (RFC 9112) with a JSON body (RFC 8259), signed by an HMAC (RFC 2104).
-ghost use Rattle.std.specs.Prelude.{◌≡◌, ◌++◌, IsTrue, IfOk, string_bytes};
-ghost use Rattle.std.specs.Str.{is_utf8};
+ghost use Rattle.std.specs.Prelude.{◌≡◌, IfOk, string_bytes};
+ghost use Rattle.std.specs.Str.{IsUtf8};
 ghost use Rattle.op_model.specs.Bodies.{id, incoming_url, outgoing_url, amount_data};
 ghost use Rattle.op_model.specs.Messages.{event_type as type_of, event_values, event_body, signature, signed, message_of};
 ghost use Rattle.op_hooks.specs.Plain.{IsPlain, Prints};
@@ -14,7 +14,7 @@ use std::alloc::{AllocError, Global};
 use std::str;
 
 /// The message that tells event `number` of an address, signed at a moment with a secret. The origin and the address's
-/// path are texts.
+/// path are UTF-8, as JSON text has to be (RFC 8259, section 8.1).
 pub fn message(
     alloc: Global,
     origin: &Origin,
@@ -24,8 +24,8 @@ pub fn message(
     t: Moment,
     secret: &[u8; 32],
 ) -> Result<Vec<u8>, AllocError>
-    requires origin { IsTrue (is_utf8 origin.now) }
-    requires path { IsTrue (is_utf8 path.now) }
+    requires origin { IsUtf8 origin.now }
+    requires path { IsUtf8 path.now }
     ensures { IfOk result (λ bytes. bytes.items ≡ message_of origin.now path.now number event.now t secret.now) }
 {
     let origin = text(origin.as_bytes());
@@ -36,7 +36,7 @@ pub fn message(
 
 /// The text of these bytes.
 fn text(bytes: &[u8]) -> &str
-    requires { IsTrue (is_utf8 bytes.now) }
+    requires { IsUtf8 bytes.now }
     ensures { result.now ≡ bytes.now }
 {
     match str::from_utf8(bytes) {

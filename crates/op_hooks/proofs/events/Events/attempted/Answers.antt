@@ -1,5 +1,5 @@
-use Rattle.std.proofs.Common.{◌≡◌, ℕ, ◌-◌, true, false, sym, ap, subst, ◌∙◌, arith, rules}
-use Rattle.std.specs.Prelude.{◌==◌, not, filter, slice_set, is_some, IsTrue, Some}
+use Rattle.std.proofs.Common.{◌≡◌, ◌-◌, true, false, sym, ap, subst, ◌∙◌, arith, rules}
+use Rattle.std.specs.Prelude.{◌==◌, not, filter, slice_set, is_some, IsTrue}
 use Rattle.std.proofs.lemmas.Fn.{filter_same}
 use Rattle.op_model.specs.History.{nth, with_item}
 use Rattle.op_model.proofs.Items.{set_at_is_with_item}

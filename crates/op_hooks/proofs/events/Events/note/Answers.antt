@@ -1,4 +1,4 @@
-use Rattle.std.proofs.Common.{◌≡◌, ℕ, ◌+◌, ◌∷◌, [], ◌++◌, sym, ap, ◌∙◌, length, arith}
+use Rattle.std.proofs.Common.{◌≡◌, ◌+◌, ◌∷◌, [], ◌++◌, sym, ap, ◌∙◌, length, arith}
 use Rattle.op_model.proofs.Next.{numbered_collected-next}
 use Rattle.op_hooks.specs.Due.{is_open, number_if, numbers_where, untried}
 use Rattle.op_hooks.proofs.Numbers.{length-numbers_where}
