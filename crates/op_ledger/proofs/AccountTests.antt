@@ -7,10 +7,10 @@ use Rattle.op_model.specs.declared.act.Account.{Account}
 use Rattle.op_model.specs.declared.act.Account.TheVariants.{Outside, Pool, Fees, Wallet}
 use Rattle.op_ledger.specs.Balances.{is_outside}
 
-same_number : (m n : ℕ) → (m == n) ≡ true → m ≡ n
+pub same_number : (m n : ℕ) → (m == n) ≡ true → m ≡ n
 same_number m n h = grind (arith, nat_tests)
 
-number_same : (n : ℕ) → (n == n) ≡ true
+pub number_same : (n : ℕ) → (n == n) ≡ true
 number_same n = grind (arith, nat_tests)
 
 number_sym : (m n : ℕ) → (m == n) ≡ (n == m)

@@ -15,7 +15,7 @@ use Rattle.op_ledger.specs.Indexed.{place_at, PlacesAlso, AreDistinct, IsPlaceOf
 use Rattle.op_ledger.proofs.Replaced.{OnlyOne, set_is_replaced, find_passes, find_only, find-map}
 use Rattle.op_ledger.proofs.AccountTests.{account_is, is_account, is_same_account-sym}
 
-some_is : {X : Type 0} (x y : X) → Some x ≡ Some y → x ≡ y
+pub some_is : {X : Type 0} (x y : X) → Some x ≡ Some y → x ≡ y
 some_is x y h = cc
 
 -- an account stands once

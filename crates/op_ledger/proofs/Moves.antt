@@ -12,11 +12,8 @@ use Rattle.op_ledger.specs.Balances.{LedgerValue, find_balance, balance_of, is_o
 use Rattle.op_ledger.specs.Indexed.{AreDistinct, put_at, put}
 use Rattle.op_ledger.proofs.Replaced.{map_same}
 use Rattle.op_ledger.proofs.AccountTests.{account_is, is_account, is_same_account-sym, not_outside}
-use Rattle.op_ledger.proofs.Index.{found_account, found_itself, distinct-map, put_keeps}
+use Rattle.op_ledger.proofs.Index.{found_account, found_itself, distinct-map, put_keeps, some_is}
 use Rattle.op_ledger.proofs.Puts.{ledger, find_balance-put}
-
-some_is : {X : Type 0} (x y : X) → Some x ≡ Some y → x ≡ y
-some_is x y h = cc
 
 -- each account has one balance
 pub same_found : (xs : List Balance) (k : ℕ) (b : Balance) (a : Account) (x : Balance) → AreDistinct xs → slice_get xs k ≡ Some b → find_balance xs a ≡ Some x → is_same_account b.account a ≡ true → b ≡ x

@@ -6,7 +6,6 @@ use Rattle.std.specs.Option.{option_map, option_map_or}
 use Rattle.std.specs.declared.option.Option.{Option}
 use Rattle.std.proofs.lemmas.List.Sums.{sum_by-cons}
 use Rattle.std.proofs.lemmas.List.Elements.{All-map}
-use Rattle.std.proofs.lemmas.Bool.Decides.{nat_tests}
 use Rattle.op_model.specs.Balances.{is_same_account}
 use Rattle.op_model.specs.declared.act.Account.{Account}
 use Rattle.op_model.specs.declared.act.Account.TheVariants.{Outside}
@@ -15,7 +14,7 @@ use Rattle.op_ledger.specs.Balances.{LedgerValue, find_balance, is_outside, tota
 use Rattle.op_ledger.specs.Indexed.{AreDistinct, put_at, put}
 use Rattle.op_ledger.specs.Sound.{inside_part, inside}
 use Rattle.op_ledger.proofs.Replaced.{find_passes, sum_by-replaced}
-use Rattle.op_ledger.proofs.AccountTests.{account_is, is_same_account-sym, not_outside}
+use Rattle.op_ledger.proofs.AccountTests.{account_is, is_same_account-sym, not_outside, number_same}
 use Rattle.op_ledger.proofs.Index.{found_account, only_account, find_balance-map, put_keeps}
 
 -- the ledger of a list of balances
@@ -95,9 +94,6 @@ sum_step f false z x xs o rest h = omega (arith, rest h, sum_by-cons f z xs)
 pub sum_by-found : {X : Type 0} (f : X → ℕ) (p : X → Bool) (xs : List X) (x : X) → find p xs ≡ Some x → f x ≤ sum_by f xs
 sum_by-found f p [] x h = absurd (let e : None ≡ Some x = h in cc)
 sum_by-found f p (z ∷ xs) x h = sum_step f (p z) z x xs (find p xs) (sum_by-found f p xs x) h
-
-number_same : (n : ℕ) → (n == n) ≡ true
-number_same n = grind (arith, nat_tests)
 
 pub posted_inside : (xs : List Balance) (a : Account) (x : Balance) → find_balance xs a ≡ Some x → is_outside x.account ≡ false → x.posted ≤ inside (ledger xs) x.asset
 posted_inside xs a x found out =

@@ -14,7 +14,7 @@ use Rattle.op_ledger.specs.Indexed.{put}
 use Rattle.op_ledger.specs.Sound.{IsSound, backing}
 use Rattle.op_ledger.specs.Pieces.{within_legs, between_legs, taken, is_within_one_asset, CanMoveWithin, CanMoveBetween}
 use Rattle.op_ledger.specs.Runs.{Call, Opened, Deposited, Withdrawn, Held, Posted, Voided, CanPost, CanCall, after_call}
-use Rattle.op_ledger.proofs.AccountTests.{left_of, not_of}
+use Rattle.op_ledger.proofs.AccountTests.{left_of, not_of, same_number}
 use Rattle.op_ledger.proofs.Index.{found_account, there_is, nothing_is}
 use Rattle.op_ledger.proofs.Soundness.{sound_held, sound_deposit, sound_withdrawal, sound_opened, covered_of, covered_inside, backing_inside}
 use Rattle.op_ledger.proofs.Moves.{holding_is, deposit_is, withdrawal_is, transfer_is}
@@ -96,9 +96,6 @@ held_sound v a n sound a_in le =
 differ_of : (m n : ℕ) → (m == n) ≡ false → m ≡ n → ⊥
 differ_of m n h e = grind (arith, nat_tests)
 
-same_of : (m n : ℕ) → (m == n) ≡ true → m ≡ n
-same_of m n h = grind (arith, nat_tests)
-
 not_less_of : (m n : ℕ) → nat_lt m n ≡ false → n ≤ m
 not_less_of m n h = grind (arith, nat_tests)
 
@@ -108,7 +105,7 @@ liquid_of false q h e = h
 
 pub within_can : (v : LedgerValue) (piece : Piece) → is_within_one_asset v piece ≡ true → IsSound v → CanPost v piece → CanMoveWithin (holding v piece.payer (λ h. h - taken piece)) (asset_in v piece.payer) piece
 within_can v piece e sound can =
-    can_move_within v (asset_in v piece.payer) piece sound can.payer can.payee can.fees can.covered refl (sym (same_of (asset_in v piece.payer) (asset_in v piece.payee) e))
+    can_move_within v (asset_in v piece.payer) piece sound can.payer can.payee can.fees can.covered refl (sym (same_number (asset_in v piece.payer) (asset_in v piece.payee) e))
 
 pub between_can : (v : LedgerValue) (piece : Piece) → is_within_one_asset v piece ≡ false → IsSound v → CanPost v piece → CanMoveBetween (holding v piece.payer (λ h. h - taken piece)) (asset_in v piece.payer) (asset_in v piece.payee) piece
 between_can v piece e sound can =

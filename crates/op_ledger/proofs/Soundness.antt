@@ -6,7 +6,6 @@ use Rattle.std.specs.declared.option.Option.{Option}
 use Rattle.std.proofs.lemmas.List.Sums.{sum_by-append}
 use Rattle.std.proofs.lemmas.List.Folds.{find-append}
 use Rattle.std.proofs.lemmas.List.Elements.{All-append}
-use Rattle.std.proofs.lemmas.Bool.Decides.{nat_tests}
 use Rattle.op_amount.specs.declared.TheConstants.{TOP}
 use Rattle.op_model.specs.Balances.{is_same_account}
 use Rattle.op_model.specs.declared.act.Account.{Account}
@@ -15,12 +14,9 @@ use Rattle.op_ledger.specs.declared.values.Balance.{Balance}
 use Rattle.op_ledger.specs.Balances.{LedgerValue, find_balance, balance_of, is_outside, total_in, IsNumbered, opened}
 use Rattle.op_ledger.specs.Indexed.{AreDistinct, put_at, put}
 use Rattle.op_ledger.specs.Sound.{backing, inside_part, inside, IsSound}
-use Rattle.op_ledger.proofs.AccountTests.{not_outside}
+use Rattle.op_ledger.proofs.AccountTests.{not_outside, same_number}
 use Rattle.op_ledger.proofs.Index.{found_account, distinct-map, distinct-append, put_keeps}
 use Rattle.op_ledger.proofs.Puts.{ledger, find_balance-put, total-put_inside, total-put_outside, total-put_held, inside-put, part_outside, part_inside, posted_inside, All-put, All-found}
-
-number_is : (m n : ℕ) → (m == n) ≡ true → m ≡ n
-number_is m n h = grind (arith, nat_tests)
 
 pub backing_inside : (b : Balance) → is_outside b.account ≡ false → backing b ≡ b.posted
 backing_inside b out = rw out refl
@@ -88,7 +84,7 @@ sound_with_outside v x w y z sound found out w_found w_out held sums top =
           both_step (x.asset == q) (inside v q) (inside (ledger ys) q) (inside (ledger (put d ys)) q) (total_in v q) (total_in (ledger (put d ys)) q) x.posted y w.posted z
           (ap (λ n. inside (ledger ys) q + n) (sym (part_inside q x out)) ∙ inside-put b x xs q sound.distinct found ∙ ap (λ n. inside v q + n) (part_inside q b out))
           (ap (λ n. inside (ledger (put d ys)) q + n) (sym (part_outside q w w_outside)) ∙ inside-put d w ys q distinct there ∙ ap (λ n. inside (ledger ys) q + n) (part_outside q d w_outside))
-          (sound.balanced q) (totals q) (λ e. subst (λ k. total_in v k ≡ w.posted) (number_is x.asset q e) w_total) sums;
+          (sound.balanced q) (totals q) (λ e. subst (λ k. total_in v k ≡ w.posted) (same_number x.asset q e) w_total) sums;
       at_most_top = λ q. top_step (x.asset == q) (total_in (ledger (put d ys)) q) z (total_in v q) (totals q) top (sound.at_most_top q);
     }
 

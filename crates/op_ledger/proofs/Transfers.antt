@@ -1,10 +1,9 @@
 -- Values that go from one account to another.
 use Rattle.std.proofs.Common.{◌≡◌, ℕ, ◌+◌, ◌-◌, ◌≤◌, Bool, true, false, cond, List, [], ◌∷◌, ◌++◌, refl, sym, ap, subst, ◌∙◌, arith}
-use Rattle.std.specs.Prelude.{Some, None, not, ◌&&◌, ◌==◌, slice_get, if◌then◌else◌}
+use Rattle.std.specs.Prelude.{Some, None, not, ◌&&◌, slice_get, if◌then◌else◌}
 use Rattle.std.specs.Option.{option_map, option_map_or, is_some}
 use Rattle.std.specs.declared.option.Option.{Option}
 use Rattle.std.proofs.lemmas.List.Sums.{sum_by-cons}
-use Rattle.std.proofs.lemmas.Bool.Decides.{nat_tests}
 use Rattle.op_amount.specs.declared.TheConstants.{TOP}
 use Rattle.op_model.specs.Balances.{Movement, comes, goes, came_to, went_from, is_same_account}
 use Rattle.op_model.specs.declared.act.Account.{Account}
@@ -16,7 +15,7 @@ use Rattle.op_ledger.specs.Indexed.{AreDistinct, put_at, put}
 use Rattle.op_ledger.specs.Sound.{inside, inside_part, IsSound}
 use Rattle.op_ledger.specs.Pieces.{within_legs, between_legs}
 use Rattle.op_ledger.proofs.Replaced.{map_same}
-use Rattle.op_ledger.proofs.AccountTests.{account_is, is_account, is_same_account-sym}
+use Rattle.op_ledger.proofs.AccountTests.{account_is, is_account, is_same_account-sym, number_same}
 use Rattle.op_ledger.proofs.Index.{found_account, find_balance-map, put_keeps, there_is}
 use Rattle.op_ledger.proofs.Puts.{ledger, find_balance-put, inside-put, part_inside, posted_inside}
 use Rattle.op_ledger.proofs.Soundness.{sound_between, covered_inside}
@@ -260,9 +259,6 @@ field-put f y x xs a found same =
 
 pub there-put : (y : Balance) (xs : List Balance) (a : Account) → is_some (find_balance (put y xs) a) ≡ is_some (find_balance xs a)
 there-put y xs a = ap is_some (find_balance-map (put_at y) (put_keeps y) xs a) ∙ some-map (put_at y) (find_balance xs a)
-
-number_same : (n : ℕ) → (n == n) ≡ true
-number_same n = grind (arith, nat_tests)
 
 module _ (v : LedgerValue) (a c : Account) (n : ℕ) (x w : Balance) (sound : IsSound v) (found : balance_of v a ≡ Some x) (a_inside : is_outside a ≡ false) (w_found : find_balance (put (record x { posted = x.posted - n }) v.accounts) c ≡ Some w) (c_inside : is_outside c ≡ false) (one_asset : asset_in v a ≡ asset_in v c) (enough : n ≤ x.posted - x.held) where
   target_asset : w.asset ≡ x.asset
