@@ -1,0 +1,5 @@
+pub mod Fields
+pub mod Records
+pub mod Recordable
+pub mod Readers
+pub mod Rows
