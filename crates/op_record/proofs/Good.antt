@@ -53,10 +53,10 @@ pub record Later {A B : Type 0} (read : Result (A × List ℕ) Fault) (next : A 
   pub is : read ≡ Ok (value, rest)
   pub fails : next value rest ≡ Err d
 
-abbrev err : {X : Type 0} → Fault → Result X Fault
+abbrev pub err : {X : Type 0} → Fault → Result X Fault
 err d = Err d
 
-abbrev ok : {X : Type 0} → X → Result X Fault
+abbrev pub ok : {X : Type 0} → X → Result X Fault
 ok x = Ok x
 
 err_is : {X : Type 0} (d d' : Fault) → err {X = X} d ≡ err d' → d ≡ d'
@@ -170,7 +170,7 @@ bind_bad r next good goes bytes left e =
 pub good-bind : {A B : Type 0} (r : Reader A) (next : A → Reader B) → IsGood r → ((bytes : List ℕ) (x : A) (rest : List ℕ) → r bytes ≡ Ok (x, rest) → IsGood (next x)) → IsGood (bind r next)
 good-bind r next good goes = record { whole = bind_whole r next good goes; short = bind_short r next good goes; bad = bind_bad r next good goes }
 
-ok_parts : {A : Type 0} (x y : A) (bytes rest : List ℕ) → ok {X = A × List ℕ} (x, bytes) ≡ ok (y, rest) → (x ≡ y) × (bytes ≡ rest)
+pub ok_parts : {A : Type 0} (x y : A) (bytes rest : List ℕ) → ok {X = A × List ℕ} (x, bytes) ≡ ok (y, rest) → (x ≡ y) × (bytes ≡ rest)
 ok_parts x y bytes rest e =
     let pair : (x, bytes) ≡ (y, rest) = cc in
     (ap (λ (p : _ × List ℕ). p.0) pair, ap (λ (p : _ × List ℕ). p.1) pair)

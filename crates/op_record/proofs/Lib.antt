@@ -1,1 +1,4 @@
 pub mod Good
+pub mod Numbers
+pub mod FieldLaws
+pub mod Parts

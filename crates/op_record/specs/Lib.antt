@@ -3,3 +3,4 @@ pub mod Records
 pub mod Recordable
 pub mod Readers
 pub mod Rows
+pub mod Cuts

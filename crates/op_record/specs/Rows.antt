@@ -43,6 +43,12 @@ mode_of n = if n == 1 then modes.Debit else (if n == 2 then modes.Receive else m
 abbrev pub reason_of : ℕ → FailReason
 reason_of n = if n == 1 then QuoteExpired else (if n == 2 then ReceiverClosed else Cancelled)
 
+unfoldable pub mode_at : Reader QuoteMode
+mode_at = bind (byte_between 1 3) (λ n. done (mode_of n))
+
+unfoldable pub reason_at : Reader FailReason
+reason_at = bind (byte_between 1 3) (λ n. done (reason_of n))
+
 -- two bytes; the first digit of a status is at most 3, since 999 is 3 * 256 + 231
 unfoldable pub outcome_at : Reader ℕ
 outcome_at = bind (byte_between 0 3) (λ high. bind (byte (λ low. nat_lt low 256 && is_outcome (high * 256 + low))) (λ low. done (high * 256 + low)))
@@ -97,9 +103,9 @@ incoming_made_at = bind u64_at (λ grant. bind u32_at (λ address. bind (option_
     bind (option_at (text_at 1024)) (λ metadata. done (acts.IncomingMade grant address amount expiry metadata))))))
 
 unfoldable pub quote_made_at : Reader Act
-quote_made_at = bind u64_at (λ grant. bind u32_at (λ address. bind u64_at (λ incoming. bind (byte_between 1 3) (λ mode. bind u64_at (λ asked.
+quote_made_at = bind u64_at (λ grant. bind u32_at (λ address. bind u64_at (λ incoming. bind mode_at (λ mode. bind u64_at (λ asked.
     bind u64_at (λ debit. bind u64_at (λ source. bind u64_at (λ fee. bind u64_at (λ receive. bind u64_at (λ num. bind u64_at (λ den.
-    done (acts.QuoteMade grant address incoming (mode_of mode) asked debit source fee receive num den))))))))))))
+    done (acts.QuoteMade grant address incoming mode asked debit source fee receive num den))))))))))))
 
 unfoldable pub grant_asked_at : Reader Act
 grant_asked_at = bind (text_at 256) (λ client. bind items_at (λ items. bind (option_at finish_at) (λ finish. bind word_at (λ word.
@@ -121,7 +127,7 @@ unfoldable pub outgoing_made_at : Reader Act
 outgoing_made_at = bind u64_at (λ grant. bind u64_at (λ quote. bind (option_at (text_at 1024)) (λ metadata. done (acts.OutgoingMade grant quote metadata))))
 
 unfoldable pub outgoing_failed_at : Reader Act
-outgoing_failed_at = bind u64_at (λ payment. bind u64_at (λ step. bind (byte_between 1 3) (λ reason. done (acts.OutgoingFailed payment step (reason_of reason)))))
+outgoing_failed_at = bind u64_at (λ payment. bind u64_at (λ step. bind reason_at (λ reason. done (acts.OutgoingFailed payment step reason))))
 
 unfoldable pub attempted_at : Reader Act
 attempted_at = bind u64_at (λ event. bind outcome_at (λ outcome. done (acts.Attempted event outcome)))

@@ -3,3 +3,14 @@
 
 mod fault;
 mod fields;
+
+/// Why bytes are no record.
+#[derive(Clone, Copy, Debug, PartialEq, Eq)]
+pub enum RecordFault {
+    /// A record begins with them, and goes on.
+    Short,
+    /// No record begins with the bytes up to and with this place, and this is the first such place.
+    Bad { at: u64 },
+    /// Memory was wanting.
+    Memory,
+}

@@ -1,0 +1,29 @@
+-- What bytes are that begin no whole record.
+use Rattle.std.specs.Prelude.{◌≡◌, ◌≢◌, ◌⊎◌, ℕ, ◌+◌, ◌<◌, List, ◌++◌, length, take, Result, Ok, Err}
+use Rattle.op_model.specs.declared.act.Entry.{Entry}
+use Rattle.op_record.specs.Records.{record_of}
+use Rattle.op_record.specs.Recordable.{IsRecordable, FitsTypes}
+use Rattle.op_record.specs.declared.RecordFault.{RecordFault}
+use Rattle.op_record.specs.declared.RecordFault.TheVariants.{Memory}
+
+-- an entry that has a record
+abbrev pub HasRecord : Entry → Type 0
+HasRecord entry = IsRecordable entry × FitsTypes entry
+
+-- a record begins so, and goes on
+pub record IsCut (bytes : List ℕ) : Type 0 where
+  pub entry : Entry
+  pub has : HasRecord entry
+  pub more : List ℕ
+  pub some : 0 < length more
+  pub whole : bytes ++ more ≡ record_of entry
+
+-- a record begins with the bytes before this place, and none with the byte there too
+pub record IsBadAt (bytes : List ℕ) (at : ℕ) : Type 0 where
+  pub within : at < length bytes
+  pub before : IsCut (take at bytes)
+  pub never : (entry : Entry) (more : List ℕ) → HasRecord entry → take (at + 1) bytes ++ more ≢ record_of entry
+
+-- the result is this one, unless memory ran out
+abbrev pub IsUnlessMemory : {X : Type 0} → Result X RecordFault → Result X RecordFault → Type 0
+IsUnlessMemory result wanted = (result ≡ wanted) ⊎ (result ≡ Err Memory)
