@@ -175,3 +175,14 @@ option-field {A} {r} {spell} {F} field =
     (λ e. row-done (λ t. flag ∷ t) None (ap one (eqb-true flag 0 e)) tt)
     (λ e. row-bind (λ t. flag ∷ t) field (λ x fits. row-done (λ t. flag ∷ (spell x ++ t)) (Some x) (ap (λ (v : ℕ). v ∷ (spell x ++ [])) (zero_or_one flag h e) ∙ ap (λ (t : List ℕ). 1 ∷ t) (append-nil (spell x))) fits))))
     (option_again field)
+
+-- a last field
+pub row-last : {B : Type 0} {r : Reader B} {piece : B → List ℕ} {F : B → Type 0} {spell : B → List ℕ} {Fits : B → Type 0} (wrap : List ℕ → List ℕ)
+    → Field r piece F → ((x : B) → F x → (wrap (piece x) ≡ spell x) × Fits x) → Row spell Fits wrap r
+row-last {B} {r} {piece} {F} {spell} {Fits} wrap field same = record {
+  good = field.good;
+  takes = λ bytes x rest e.
+    let t = field.takes bytes x rest e in
+    let s = same x t.0 in
+    record { text = piece x; parts = t.1; spelled = s.0; fits = s.1 };
+}

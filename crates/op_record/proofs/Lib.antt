@@ -2,3 +2,5 @@ pub mod Good
 pub mod Numbers
 pub mod FieldLaws
 pub mod Parts
+pub mod ItemLaws
+pub mod ActLaws
