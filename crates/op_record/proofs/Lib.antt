@@ -4,3 +4,4 @@ pub mod FieldLaws
 pub mod Parts
 pub mod ItemLaws
 pub mod ActLaws
+pub mod Digits
