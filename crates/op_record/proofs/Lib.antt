@@ -5,3 +5,4 @@ pub mod Parts
 pub mod ItemLaws
 pub mod ActLaws
 pub mod Digits
+pub mod ItemSteps

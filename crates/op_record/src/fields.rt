@@ -11,7 +11,7 @@ use op_time::{LAST, Moment};
 use std::alloc::Global;
 
 /// The first byte and those after it.
-fn first_of(bytes: &[u8]) -> Option<(u8, &[u8])>
+pub(crate) fn first_of(bytes: &[u8]) -> Option<(u8, &[u8])>
     ensures parts { MatchOption result (bytes.now ≡ []) (λ x. bytes.now ≡ x.0 ∷ x.1.now) }
     ensures small { IfSome result (λ x. x.0 < 256) }
 {

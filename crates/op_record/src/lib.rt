@@ -3,6 +3,7 @@
 
 mod fault;
 mod fields;
+mod grants;
 
 /// Why bytes are no record.
 #[derive(Clone, Copy, Debug, PartialEq, Eq)]
