@@ -6,3 +6,4 @@ pub mod ItemLaws
 pub mod ActLaws
 pub mod Digits
 pub mod ItemSteps
+pub mod CutLaws

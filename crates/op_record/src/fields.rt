@@ -7,7 +7,7 @@ ghost use Rattle.op_record.specs.Rows.{u32_at, u64_at, moment_at, word_at, accou
 
 use crate::fault::{Fault, ReadError};
 use op_model::{Account, FailReason, QuoteMode, Text, Word};
-use op_time::{LAST, Moment};
+use op_time::LAST;
 use std::alloc::Global;
 
 /// The first byte and those after it.
@@ -88,11 +88,12 @@ pub(crate) fn u64_at(bytes: &[u8]) -> Result<(u64, &[u8]), ReadError>
     number_at(bytes, 8, u64::MAX)
 }
 
-pub(crate) fn moment_at(bytes: &[u8]) -> Result<(Moment, &[u8]), ReadError>
-    ensures { Gives (λ x. (x.0, x.1.now)) result (moment_at bytes.now) }
+/// The milliseconds of a moment: at most those of the last one.
+pub(crate) fn moment_at(bytes: &[u8]) -> Result<(u64, &[u8]), ReadError>
+    ensures gives { Gives (λ x. (x.0, x.1.now)) result (moment_at bytes.now) }
+    ensures low { IfOk result (λ x. x.0 ≤ LAST) }
 {
-    let (number, rest) = number_at(bytes, 8, LAST)?;
-    Ok((Moment::at_most_last(number), rest))
+    number_at(bytes, 8, LAST)
 }
 
 pub(crate) fn word_at(bytes: &[u8]) -> Result<(Word, &[u8]), ReadError>
@@ -108,6 +109,7 @@ pub(crate) fn word_at(bytes: &[u8]) -> Result<(Word, &[u8]), ReadError>
 #[tactic(auto, unfolding(crate::specs::Readers::text_at, crate::specs::Readers::bind))]
 pub(crate) fn text_at(bytes: &[u8], limit: u64) -> Result<(&[u8], &[u8]), ReadError>
     ensures gives { Gives (λ x. (x.0.now, x.1.now)) result (text_at limit bytes.now) }
+    ensures short { IfOk result (λ x. length x.0.now ≤ limit) }
 {
     let (count, rest) = number_at(bytes, 2, limit)?;
     bytes_at(rest, count as usize)

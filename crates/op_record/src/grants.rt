@@ -129,6 +129,7 @@ fn item_at(alloc: Global, bytes: &[u8], low: u8, high: u8) -> Result<(Item, &[u8
 }
 
 /// One to three items in ascending type.
+#[tactic(auto, unfolding(crate::specs::Rows::items_at, crate::specs::Readers::bind))]
 pub(crate) fn items_at(alloc: Global, bytes: &[u8]) -> Result<(Rows<Item>, &[u8]), ReadError>
     ensures { Gives (λ x. (x.0, x.1.now)) result (items_at bytes.now) }
 {

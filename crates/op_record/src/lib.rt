@@ -4,6 +4,7 @@
 mod fault;
 mod fields;
 mod grants;
+mod reading;
 
 /// Why bytes are no record.
 #[derive(Clone, Copy, Debug, PartialEq, Eq)]
