@@ -7,3 +7,6 @@ pub mod ActLaws
 pub mod Digits
 pub mod ItemSteps
 pub mod CutLaws
+pub mod Entries
+pub mod Putting
+pub mod LengthLaws

@@ -4,3 +4,6 @@ pub mod Recordable
 pub mod Readers
 pub mod Rows
 pub mod Cuts
+pub mod Reading
+pub mod Laws
+pub mod Writing

@@ -4,7 +4,13 @@
 mod fault;
 mod fields;
 mod grants;
+mod laws;
+mod lengths;
 mod reading;
+mod writing;
+
+pub use laws::{no_record_begins_another, records_are_cut_one_way, records_read_back};
+pub use reading::read_entry;
 
 /// Why bytes are no record.
 #[derive(Clone, Copy, Debug, PartialEq, Eq)]

@@ -1,11 +1,17 @@
 //! Acts and entries, read from left to right.
 
-ghost use Rattle.std.specs.Prelude.{◌≡◌, ◌≤◌};
+ghost use Rattle.std.specs.Prelude.{◌≡◌, ◌≤◌, ◌++◌, ℕ, List, length, IfOk};
+ghost use Rattle.op_model.specs.declared.act.Entry.{Entry};
+ghost use Rattle.op_record.specs.declared.RecordFault.TheVariants.{Short, Bad};
+ghost use Rattle.op_record.specs.Records.{record_of};
+ghost use Rattle.op_record.specs.Reading.{reading};
+ghost use Rattle.op_record.specs.Cuts.{HasRecord, IsFound, IsCut, IsBadAt, IsUnlessMemory};
 ghost use Rattle.op_model.specs.declared.act.Act.TheVariants as acts;
 ghost use Rattle.op_record.specs.Readers.{Gives};
 ghost use Rattle.op_record.specs.Rows.{origin_set_at, asset_added_at, address_added_at, moved_at, rate_set_at, incoming_made_at, quote_made_at, grant_asked_at, outgoing_made_at, outgoing_failed_at, attempted_at, provider_at, receiving_at, grant_at, sending_at, fields_at, act_at, entry_at};
 
-use crate::fault::ReadError;
+use crate::RecordFault;
+use crate::fault::{Fault, ReadError};
 use crate::fields::{
     account_at, byte_between, kept_at, mode_at, moment_at, outcome_at, reason_at, some_text_at,
     some_u64_at, text_at, u32_at, u64_at, word_at,
@@ -364,4 +370,35 @@ pub(crate) fn entry_at(alloc: Global, bytes: &[u8]) -> Result<(Entry, &[u8]), Re
         }
         Err(error) => Err(error),
     }
+}
+
+/// What reading gives of the bytes.
+fn read(alloc: Global, bytes: &[u8]) -> Result<(Entry, usize), RecordFault>
+    ensures { IsUnlessMemory result (reading bytes.now) }
+{
+    match entry_at(alloc, bytes) {
+        Ok((entry, rest)) => Ok((entry, bytes.len() - rest.len())),
+        Err(ReadError::Memory) => Err(RecordFault::Memory),
+        Err(ReadError::Fault(Fault::Short)) => Err(RecordFault::Short),
+        Err(ReadError::Fault(Fault::Bad(left))) => {
+            let at = (bytes.len() - left) as u64;
+            Err(RecordFault::Bad { at })
+        }
+    }
+}
+
+/// The entry whose record the bytes begin with, and how many bytes that is. Whatever stands behind the record is not
+/// looked at. The texts of the entry are kept on the heap.
+pub fn read_entry(alloc: Global, bytes: &[u8]) -> Result<(Entry, usize), RecordFault>
+    // What is read has the record that was taken.
+    ensures found { IfOk result (λ x. IsFound bytes.now x.0 x.1) }
+    ensures short { result ≡ Err Short → IsCut bytes.now }
+    ensures bad { (at : ℕ) → result ≡ Err (Bad at) → IsBadAt bytes.now at }
+    // What begins with a record is read, a cut record is too short, and a bad place is told, unless memory ran out.
+    ensures whole { (entry : Entry) (rest : List ℕ) → HasRecord entry → bytes.now ≡ record_of entry ++ rest
+        → IsUnlessMemory result (Ok (entry, length (record_of entry))) }
+    ensures cut { IsCut bytes.now → IsUnlessMemory result (Err Short) }
+    ensures strange { (at : ℕ) → IsBadAt bytes.now at → IsUnlessMemory result (Err (Bad at)) }
+{
+    read(alloc, bytes)
 }
