@@ -62,7 +62,7 @@ abbrev MoreFits : (left above : ℕ) → List Item → Type 0
 MoreFits left above xs = (length xs ≡ left) × AreAbove above xs × FitItems xs
 
 -- each item above leaves less room for the next
-room : (above : ℕ) (xs : List Item) → above ≤ 3 → AreAbove above xs → above + length xs ≤ 3
+pub room : (above : ℕ) (xs : List Item) → above ≤ 3 → AreAbove above xs → above + length xs ≤ 3
 room above [] le h = omega arith
 room above (x ∷ xs) le h = omega (arith, room x.kind xs h.1.0 h.2, h.0)
 

@@ -10,7 +10,9 @@ mod reading;
 mod writing;
 
 pub use laws::{no_record_begins_another, records_are_cut_one_way, records_read_back};
+pub use lengths::entry_length;
 pub use reading::read_entry;
+pub use writing::write_entry;
 
 /// Why bytes are no record.
 #[derive(Clone, Copy, Debug, PartialEq, Eq)]
