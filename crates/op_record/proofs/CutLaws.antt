@@ -56,8 +56,8 @@ bad_of bytes left s =
         within = omega arith;
         before = subst IsCut (sym front) (short_is_cut s.front s.before);
         never = λ entry more has e.
-          let whole : s.front ++ s.bad ∷ more ≡ record_of entry = sym (append_assoc s.front (s.bad ∷ []) more) ∙ ap (λ (t : List ℕ). t ++ more) (sym with) ∙ e in
-          ok_not_bad (entry_at (s.front ++ s.bad ∷ more)) (entry, []) (Bad (length (s.bad ∷ more))) (again_alone entry (s.front ++ s.bad ∷ more) has whole) (s.after more);
+            let whole : s.front ++ s.bad ∷ more ≡ record_of entry = sym (append_assoc s.front (s.bad ∷ []) more) ∙ ap (λ (t : List ℕ). t ++ more) (sym with) ∙ e in
+            ok_not_bad (entry_at (s.front ++ s.bad ∷ more)) (entry, []) (Bad (length (s.bad ∷ more))) (again_alone entry (s.front ++ s.bad ∷ more) has whole) (s.after more);
       };
     }
 
@@ -78,14 +78,14 @@ cut_cases : (bytes : List ℕ) → IsCut bytes → (read : Read) → entry_at by
 cut_cases bytes cut (Ok x) e =
     let w = entry-field.good.whole bytes x.0 x.1 e in
     let one : entry_at (bytes ++ cut.more) ≡ Ok (x.0, x.1 ++ cut.more) =
-        ap entry_at (ap (λ (t : List ℕ). t ++ cut.more) w.parts ∙ append_assoc w.text x.1 cut.more) ∙ w.again (x.1 ++ cut.more) in
+    ap entry_at (ap (λ (t : List ℕ). t ++ cut.more) w.parts ∙ append_assoc w.text x.1 cut.more) ∙ w.again (x.1 ++ cut.more) in
     let two = again_alone cut.entry (bytes ++ cut.more) cut.has cut.whole in
     not_nothing x.1 cut.more cut.some ((rest_is (entry_at (bytes ++ cut.more)) x.0 cut.entry (x.1 ++ cut.more) [] one two).1)
 cut_cases bytes cut (Err Short) e = refl
 cut_cases bytes cut (Err (Bad left)) e =
     let s = entry-field.good.bad bytes left e in
     let one : entry_at (bytes ++ cut.more) ≡ Err (Bad (length (s.bad ∷ (s.rest ++ cut.more)))) =
-        ap entry_at (ap (λ (t : List ℕ). t ++ cut.more) s.parts ∙ append_assoc s.front (s.bad ∷ s.rest) cut.more) ∙ s.after (s.rest ++ cut.more) in
+    ap entry_at (ap (λ (t : List ℕ). t ++ cut.more) s.parts ∙ append_assoc s.front (s.bad ∷ s.rest) cut.more) ∙ s.after (s.rest ++ cut.more) in
     ok_not_bad (entry_at (bytes ++ cut.more)) (cut.entry, []) (Bad (length (s.bad ∷ (s.rest ++ cut.more)))) (again_alone cut.entry (bytes ++ cut.more) cut.has cut.whole) one
 
 pub cut_is_short : (bytes : List ℕ) → IsCut bytes → entry_at bytes ≡ Err Short
@@ -96,7 +96,7 @@ take_take : (m n : ℕ) (bytes : List ℕ) → m ≤ n → n ≤ length bytes �
 take_take m n bytes le enough =
     let len : length (take n bytes) ≡ n = omega (arith, length-take n bytes) in
     let front : take m (take n bytes) ≡ take m bytes =
-        sym (take-append-le m (take n bytes) (drop n bytes) (omega arith)) ∙ ap (λ (t : List ℕ). take m t) (take-append-drop n bytes) in
+    sym (take-append-le m (take n bytes) (drop n bytes) (omega arith)) ∙ ap (λ (t : List ℕ). take m t) (take-append-drop n bytes) in
     (drop m (take n bytes), ap (λ (t : List ℕ). t ++ drop m (take n bytes)) (sym front) ∙ take-append-drop m (take n bytes))
 
 -- a place that is bad lies before the end of each front with which a record begins
@@ -125,14 +125,14 @@ bad_cases bytes at bad (Ok x) e =
     let whole = take_at (record_of x.0) x.1 (length (record_of x.0)) refl in
     elim (cases_lt at (length (record_of x.0))) [
       | inl lt ↦
-        let enough : length (record_of x.0) ≤ length bytes = omega (arith, ap length t.1, length-append (record_of x.0) x.1) in
-        let u = take_take (at + 1) (length (record_of x.0)) bytes (omega arith) enough in
-        absurd (bad.never x.0 u.0 t.0 (u.1 ∙ ap (λ (v : List ℕ). take (length (record_of x.0)) v) t.1 ∙ whole))
+          let enough : length (record_of x.0) ≤ length bytes = omega (arith, ap length t.1, length-append (record_of x.0) x.1) in
+          let u = take_take (at + 1) (length (record_of x.0)) bytes (omega arith) enough in
+          absurd (bad.never x.0 u.0 t.0 (u.1 ∙ ap (λ (v : List ℕ). take (length (record_of x.0)) v) t.1 ∙ whole))
       | inr le ↦
-        let u = take_take (length (record_of x.0)) at bytes le (omega (arith, bad.within)) in
-        let front : take (length (record_of x.0)) bytes ≡ record_of x.0 = ap (λ (v : List ℕ). take (length (record_of x.0)) v) t.1 ∙ whole in
-        let one : entry_at (take at bytes) ≡ Ok (x.0, u.0) = ap entry_at (sym u.1 ∙ ap (λ (v : List ℕ). v ++ u.0) front) ∙ again x.0 u.0 t.0 in
-        ok_not_bad (entry_at (take at bytes)) (x.0, u.0) Short one cut_short
+          let u = take_take (length (record_of x.0)) at bytes le (omega (arith, bad.within)) in
+          let front : take (length (record_of x.0)) bytes ≡ record_of x.0 = ap (λ (v : List ℕ). take (length (record_of x.0)) v) t.1 ∙ whole in
+          let one : entry_at (take at bytes) ≡ Ok (x.0, u.0) = ap entry_at (sym u.1 ∙ ap (λ (v : List ℕ). v ++ u.0) front) ∙ again x.0 u.0 t.0 in
+          ok_not_bad (entry_at (take at bytes)) (x.0, u.0) Short one cut_short
     ]
 bad_cases bytes at bad (Err Short) e =
     no_cut_past bytes at (length bytes) bad bad.within (omega arith) (subst IsCut (sym (take_whole bytes)) (short_is_cut bytes e))

@@ -36,7 +36,7 @@ digits_more limit width at n b rest after total lt parts low le e =
     let j : width - (at + 1) ≡ width - 1 - at = omega arith in
     let first = byte_again (may_go_on limit (width - 1 - at) n) b after (goes_on limit (width - 1 - at) n b low le) in
     let one : digits_at limit (width - at) n rest ≡ digits_at limit (width - 1 - at) (n * 256 + b) after =
-        rw (k, parts) (ap (λ (read : Total). onward read (λ b. digits_at limit (width - 1 - at) (n * 256 + b))) first) in
+    rw (k, parts) (ap (λ (read : Total). onward read (λ b. digits_at limit (width - 1 - at) (n * 256 + b))) first) in
     rw j (sym one ∙ e)
 
 pub digits_done : (limit width at n : ℕ) (rest : List ℕ) (total : Total) → width ≤ at → digits_at limit (width - at) n rest ≡ total → total ≡ Ok (n, rest)

@@ -36,15 +36,15 @@ unfolding bind
 row-bind {A} {B} {r} {piece} {F} {next} {spell} {Fits} wrap field rows = record {
   good = good-bind r next field.good (λ bytes x rest e. (rows x (field.takes bytes x rest e).0).good);
   takes = λ bytes y rest e.
-    let b = bound (r bytes) next (y, rest) e in
-    let t = field.takes bytes b.value b.rest b.is in
-    let more = (rows b.value t.0).takes b.rest y rest b.goes in
-    record {
-      text = piece b.value ++ more.text;
-      parts = t.1 ∙ ap (λ (u : List ℕ). piece b.value ++ u) more.parts ∙ sym (append_assoc (piece b.value) more.text rest);
-      spelled = more.spelled;
-      fits = more.fits;
-    };
+      let b = bound (r bytes) next (y, rest) e in
+      let t = field.takes bytes b.value b.rest b.is in
+      let more = (rows b.value t.0).takes b.rest y rest b.goes in
+      record {
+        text = piece b.value ++ more.text;
+        parts = t.1 ∙ ap (λ (u : List ℕ). piece b.value ++ u) more.parts ∙ sym (append_assoc (piece b.value) more.text rest);
+        spelled = more.spelled;
+        fits = more.fits;
+      };
 }
 
 pub row-done : {B : Type 0} {spell : B → List ℕ} {Fits : B → Type 0} (wrap : List ℕ → List ℕ) (y : B) → wrap [] ≡ spell y → Fits y → Row spell Fits wrap (done y)
@@ -52,8 +52,8 @@ unfolding done
 row-done {B} {spell} {Fits} wrap y spelled fits = record {
   good = good-done y;
   takes = λ bytes x rest e.
-    let q = ok_parts y x bytes rest e in
-    record { text = []; parts = q.1; spelled = spelled ∙ ap spell q.0; fits = subst (λ v. Fits v) q.0 fits };
+      let q = ok_parts y x bytes rest e in
+      record { text = []; parts = q.1; spelled = spelled ∙ ap spell q.0; fits = subst (λ v. Fits v) q.0 fits };
 }
 
 pub row-if : {B : Type 0} {spell : B → List ℕ} {Fits : B → Type 0} (wrap : List ℕ → List ℕ) (b : Bool) {r s : Reader B}
@@ -76,8 +76,8 @@ pub field-of : {A : Type 0} (r : Reader A) (spell : A → List ℕ) (Fits : A �
 field-of r spell Fits row again = record {
   good = row.good;
   takes = λ bytes x rest e.
-    let t = row.takes bytes x rest e in
-    (t.fits, t.parts ∙ ap (λ (u : List ℕ). u ++ rest) t.spelled);
+      let t = row.takes bytes x rest e in
+      (t.fits, t.parts ∙ ap (λ (u : List ℕ). u ++ rest) t.spelled);
   again = again;
 }
 
@@ -115,11 +115,11 @@ unfolding number
 number-field width limit fits = record {
   good = digits_good limit width 0 (omega arith);
   takes = λ bytes n rest e.
-    let t = digits_takes limit width 0 bytes n rest (omega arith) e in
-    (t.low, t.parts);
+      let t = digits_takes limit width 0 bytes n rest (omega arith) e in
+      (t.low, t.parts);
   again = λ n rest le.
-    let none : n / 256 ^ width ≡ 0 = div-eq_of_lt (omega arith) in
-    subst (λ (v : ℕ). digits_at limit width v (bytes_high_first width n ++ rest) ≡ Ok (n, rest)) none (digits_again limit width n rest le);
+      let none : n / 256 ^ width ≡ 0 = div-eq_of_lt (omega arith) in
+      subst (λ (v : ℕ). digits_at limit width v (bytes_high_first width n ++ rest) ≡ Ok (n, rest)) none (digits_again limit width n rest le);
 }
 
 pub bytes-field : (n : ℕ) → Field (bytes_at n) (λ bytes. bytes) (λ bytes. length bytes ≡ n)
@@ -127,17 +127,17 @@ unfolding bytes_at
 bytes-field n = record {
   good = good-bytes n;
   takes = λ bytes x rest e.
-    elim (chosen (ltb (length bytes) n) (Err Short) (Ok (take n bytes, drop n bytes)) (Ok (x, rest)) e) [
-      | inl p ↦ absurd cc
-      | inr p ↦
-        let q = ok_parts (take n bytes) x (drop n bytes) rest p.1 in
-        let long : n ≤ length bytes = ltb-false _ _ p.0 in
-        let len : length (take n bytes) ≡ n = omega (arith, length-take n bytes) in
-        (ap length (sym q.0) ∙ len, sym (take-append-drop n bytes) ∙ ap (λ (t : List ℕ). take n bytes ++ t) q.1 ∙ ap (λ (t : List ℕ). t ++ rest) q.0)
-    ];
+      elim (chosen (ltb (length bytes) n) (Err Short) (Ok (take n bytes, drop n bytes)) (Ok (x, rest)) e) [
+        | inl p ↦ absurd cc
+        | inr p ↦
+            let q = ok_parts (take n bytes) x (drop n bytes) rest p.1 in
+            let long : n ≤ length bytes = ltb-false _ _ p.0 in
+            let len : length (take n bytes) ≡ n = omega (arith, length-take n bytes) in
+            (ap length (sym q.0) ∙ len, sym (take-append-drop n bytes) ∙ ap (λ (t : List ℕ). take n bytes ++ t) q.1 ∙ ap (λ (t : List ℕ). t ++ rest) q.0)
+      ];
   again = λ bytes rest len.
-    let enough : ltb (length (bytes ++ rest)) n ≡ false = le-ltb _ _ (omega (arith, length-append bytes rest)) in
-    rw (enough, take_at bytes rest n len, drop_at bytes rest n len) refl;
+      let enough : ltb (length (bytes ++ rest)) n ≡ false = le-ltb _ _ (omega (arith, length-append bytes rest)) in
+      rw (enough, take_at bytes rest n len, drop_at bytes rest n len) refl;
 }
 
 -- ---- fields of several parts
@@ -147,11 +147,12 @@ unfolding text_at text bind
 text-field limit fits = record {
   good = good-bind (number_at 2 limit) bytes_at (number-field 2 limit fits).good (λ bytes n rest e. good-bytes n);
   takes = λ bytes x rest e.
-    let b = bound (number_at 2 limit bytes) bytes_at (x, rest) e in
-    let n = (number-field 2 limit fits).takes bytes b.value b.rest b.is in
-    let t = (bytes-field b.value).takes b.rest x rest b.goes in
-    (subst (λ (v : ℕ). v ≤ limit) (sym t.0) n.0,
-    n.1 ∙ ap (λ (u : List ℕ). number 2 b.value ++ u) t.1 ∙ sym (append_assoc (number 2 b.value) x rest) ∙ ap (λ (v : ℕ). (number 2 v ++ x) ++ rest) (sym t.0));
+      let b = bound (number_at 2 limit bytes) bytes_at (x, rest) e in
+      let n = (number-field 2 limit fits).takes bytes b.value b.rest b.is in
+      let t = (bytes-field b.value).takes b.rest x rest b.goes in (
+        subst (λ (v : ℕ). v ≤ limit) (sym t.0) n.0,
+        n.1 ∙ ap (λ (u : List ℕ). number 2 b.value ++ u) t.1 ∙ sym (append_assoc (number 2 b.value) x rest) ∙ ap (λ (v : ℕ). (number 2 v ++ x) ++ rest) (sym t.0),
+      );
   again = λ x rest le. again-bind (number-field 2 limit fits) bytes_at (length x) x rest _ le ((bytes-field (length x)).again x rest refl);
 }
 
@@ -182,7 +183,7 @@ pub row-last : {B : Type 0} {r : Reader B} {piece : B → List ℕ} {F : B → T
 row-last {B} {r} {piece} {F} {spell} {Fits} wrap field same = record {
   good = field.good;
   takes = λ bytes x rest e.
-    let t = field.takes bytes x rest e in
-    let s = same x t.0 in
-    record { text = piece x; parts = t.1; spelled = s.0; fits = s.1 };
+      let t = field.takes bytes x rest e in
+      let s = same x t.0 in
+      record { text = piece x; parts = t.1; spelled = s.0; fits = s.1 };
 }

@@ -106,7 +106,7 @@ bind_ends r next good bytes first goes (Err Short) e =
     let w = good.whole (bytes ++ first.more) first.value [] first.reads in
     let whole : bytes ++ first.more ≡ w.text = w.parts ∙ append-nil w.text in
     let one : r (bytes ++ (first.more ++ second.more)) ≡ Ok (first.value, second.more) =
-        ap r (sym (append_assoc bytes first.more second.more) ∙ ap (λ (t : List ℕ). t ++ second.more) whole) ∙ w.again second.more in
+    ap r (sym (append_assoc bytes first.more second.more) ∙ ap (λ (t : List ℕ). t ++ second.more) whole) ∙ w.again second.more in
     record {
       more = first.more ++ second.more;
       value = second.value;
@@ -122,19 +122,19 @@ unfolding bind
 bind_short r next good goes bytes e =
     elim (failed (r bytes) next Short e) [
       | inl is ↦
-        let first = good.short bytes is in
-        bind_ends r next good bytes first (goes (bytes ++ first.more) first.value [] first.reads) (next first.value []) refl
+          let first = good.short bytes is in
+          bind_ends r next good bytes first (goes (bytes ++ first.more) first.value [] first.reads) (next first.value []) refl
       | inr later ↦
-        let w = good.whole bytes later.value later.rest later.is in
-        let second = (goes bytes later.value later.rest later.is).short later.rest later.fails in
-        let one : r (bytes ++ second.more) ≡ Ok (later.value, later.rest ++ second.more) =
-            ap r (ap (λ (t : List ℕ). t ++ second.more) w.parts ∙ append_assoc w.text later.rest second.more) ∙ w.again (later.rest ++ second.more) in
-        record {
-          more = second.more;
-          value = second.value;
-          some = second.some;
-          reads = ap (λ (read : Result (_ × List ℕ) Fault). onward read next) one ∙ second.reads;
-        }
+          let w = good.whole bytes later.value later.rest later.is in
+          let second = (goes bytes later.value later.rest later.is).short later.rest later.fails in
+          let one : r (bytes ++ second.more) ≡ Ok (later.value, later.rest ++ second.more) =
+          ap r (ap (λ (t : List ℕ). t ++ second.more) w.parts ∙ append_assoc w.text later.rest second.more) ∙ w.again (later.rest ++ second.more) in
+          record {
+            more = second.more;
+            value = second.value;
+            some = second.some;
+            reads = ap (λ (read : Result (_ × List ℕ) Fault). onward read next) one ∙ second.reads;
+          }
     ]
 
 bind_bad : {A B : Type 0} (r : Reader A) (next : A → Reader B) → IsGood r → ((bytes : List ℕ) (x : A) (rest : List ℕ) → r bytes ≡ Ok (x, rest) → IsGood (next x))
@@ -143,28 +143,28 @@ unfolding bind
 bind_bad r next good goes bytes left e =
     elim (failed (r bytes) next (Bad left) e) [
       | inl is ↦
-        let s = good.bad bytes left is in
-        record {
-          front = s.front;
-          bad = s.bad;
-          rest = s.rest;
-          parts = s.parts;
-          place = s.place;
-          before = ap (λ (read : Result (_ × List ℕ) Fault). onward read next) s.before;
-          after = λ more. ap (λ (read : Result (_ × List ℕ) Fault). onward read next) (s.after more);
-        }
+          let s = good.bad bytes left is in
+          record {
+            front = s.front;
+            bad = s.bad;
+            rest = s.rest;
+            parts = s.parts;
+            place = s.place;
+            before = ap (λ (read : Result (_ × List ℕ) Fault). onward read next) s.before;
+            after = λ more. ap (λ (read : Result (_ × List ℕ) Fault). onward read next) (s.after more);
+          }
       | inr later ↦
-        let w = good.whole bytes later.value later.rest later.is in
-        let s = (goes bytes later.value later.rest later.is).bad later.rest left later.fails in
-        record {
-          front = w.text ++ s.front;
-          bad = s.bad;
-          rest = s.rest;
-          parts = w.parts ∙ ap (λ (t : List ℕ). w.text ++ t) s.parts ∙ sym (append_assoc w.text s.front (s.bad ∷ s.rest));
-          place = s.place;
-          before = ap (λ (read : Result (_ × List ℕ) Fault). onward read next) (w.again s.front) ∙ s.before;
-          after = λ more. rw (append_assoc w.text s.front (s.bad ∷ more)) (ap (λ (read : Result (_ × List ℕ) Fault). onward read next) (w.again (s.front ++ s.bad ∷ more)) ∙ s.after more);
-        }
+          let w = good.whole bytes later.value later.rest later.is in
+          let s = (goes bytes later.value later.rest later.is).bad later.rest left later.fails in
+          record {
+            front = w.text ++ s.front;
+            bad = s.bad;
+            rest = s.rest;
+            parts = w.parts ∙ ap (λ (t : List ℕ). w.text ++ t) s.parts ∙ sym (append_assoc w.text s.front (s.bad ∷ s.rest));
+            place = s.place;
+            before = ap (λ (read : Result (_ × List ℕ) Fault). onward read next) (w.again s.front) ∙ s.before;
+            after = λ more. rw (append_assoc w.text s.front (s.bad ∷ more)) (ap (λ (read : Result (_ × List ℕ) Fault). onward read next) (w.again (s.front ++ s.bad ∷ more)) ∙ s.after more);
+          }
     ]
 
 pub good-bind : {A B : Type 0} (r : Reader A) (next : A → Reader B) → IsGood r → ((bytes : List ℕ) (x : A) (rest : List ℕ) → r bytes ≡ Ok (x, rest) → IsGood (next x)) → IsGood (bind r next)
@@ -179,8 +179,8 @@ pub good-done : {A : Type 0} (x : A) → IsGood (done x)
 unfolding done
 good-done x = record {
   whole = λ bytes y rest e.
-    let p = ok_parts x y bytes rest e in
-    record { text = []; parts = p.1; again = λ more. ap (λ v. Ok (v, more)) p.0 };
+      let p = ok_parts x y bytes rest e in
+      record { text = []; parts = p.1; again = λ more. ap (λ v. Ok (v, more)) p.0 };
   short = λ bytes e. absurd cc;
   bad = λ bytes left e. absurd cc;
 }
@@ -207,10 +207,11 @@ good-byte test one passes = record {
   whole (b ∷ bytes) x rest e =
       elim (chosen (test b) (Ok (b, bytes)) (Err (Bad (length (b ∷ bytes)))) (Ok (x, rest)) e) [
         | inl p ↦
-          let q = ok_parts b x bytes rest p.1 in
-          record { text = b ∷ []; parts = ap (λ (t : List ℕ). b ∷ t) q.1; again = λ more. rw p.0 (ap (λ (v : ℕ). Ok (v, more)) q.0) }
+            let q = ok_parts b x bytes rest p.1 in
+            record { text = b ∷ []; parts = ap (λ (t : List ℕ). b ∷ t) q.1; again = λ more. rw p.0 (ap (λ (v : ℕ). Ok (v, more)) q.0) }
         | inr p ↦ absurd cc
       ]
+
   short : (bytes : List ℕ) → byte test bytes ≡ Err Short → Extends (byte test) bytes
   short [] e = record { more = one ∷ []; value = one; some = lit< tt; reads = rw passes refl }
   short (b ∷ bytes) e =
@@ -218,13 +219,14 @@ good-byte test one passes = record {
         | inl p ↦ absurd cc
         | inr p ↦ absurd cc
       ]
+
   bad : (bytes : List ℕ) (left : ℕ) → byte test bytes ≡ Err (Bad left) → Stops (byte test) bytes left
   bad [] left e = absurd cc
   bad (b ∷ bytes) left e =
       elim (chosen (test b) (Ok (b, bytes)) (Err (Bad (length (b ∷ bytes)))) (Err (Bad left)) e) [
         | inl p ↦ absurd cc
         | inr p ↦
-          record { front = []; bad = b; rest = bytes; parts = refl; place = sym (bad_is {X = ℕ × List ℕ} _ _ p.1); before = refl; after = λ more. rw p.0 refl }
+            record { front = []; bad = b; rest = bytes; parts = refl; place = sym (bad_is {X = ℕ × List ℕ} _ _ p.1); before = refl; after = λ more. rw p.0 refl }
       ]
 
 -- ---- so many bytes
@@ -233,40 +235,40 @@ pub good-bytes : (n : ℕ) → IsGood (bytes_at n)
 unfolding bytes_at
 good-bytes n = record {
   whole = λ bytes x rest e.
-    elim (chosen (ltb (length bytes) n) (Err Short) (Ok (take n bytes, drop n bytes)) (Ok (x, rest)) e) [
-      | inl p ↦ absurd cc
-      | inr p ↦
-        let q = ok_parts (take n bytes) x (drop n bytes) rest p.1 in
-        let long : n ≤ length bytes = ltb-false _ _ p.0 in
-        let len : length (take n bytes) ≡ n = omega (arith, length-take n bytes) in
-        record {
-          text = take n bytes;
-          parts = sym (take-append-drop n bytes) ∙ ap (λ (t : List ℕ). take n bytes ++ t) q.1;
-          again = λ more.
-            let enough : ltb (length (take n bytes ++ more)) n ≡ false = le-ltb _ _ (omega (arith, length-append (take n bytes) more)) in
-            rw (enough, take_at (take n bytes) more n len, drop_at (take n bytes) more n len) (ap (λ (t : List ℕ). Ok (t, more)) q.0);
-        }
-    ];
+      elim (chosen (ltb (length bytes) n) (Err Short) (Ok (take n bytes, drop n bytes)) (Ok (x, rest)) e) [
+        | inl p ↦ absurd cc
+        | inr p ↦
+            let q = ok_parts (take n bytes) x (drop n bytes) rest p.1 in
+            let long : n ≤ length bytes = ltb-false _ _ p.0 in
+            let len : length (take n bytes) ≡ n = omega (arith, length-take n bytes) in
+            record {
+              text = take n bytes;
+              parts = sym (take-append-drop n bytes) ∙ ap (λ (t : List ℕ). take n bytes ++ t) q.1;
+              again = λ more.
+                  let enough : ltb (length (take n bytes ++ more)) n ≡ false = le-ltb _ _ (omega (arith, length-append (take n bytes) more)) in
+                  rw (enough, take_at (take n bytes) more n len, drop_at (take n bytes) more n len) (ap (λ (t : List ℕ). Ok (t, more)) q.0);
+            }
+      ];
   short = λ bytes e.
-    elim (chosen (ltb (length bytes) n) (Err Short) (Ok (take n bytes, drop n bytes)) (Err Short) e) [
-      | inl p ↦
-        let less : length bytes < n = ltb-true _ _ p.0 in
-        let fill = replicate (n - length bytes) 0 in
-        let all : length (bytes ++ fill) ≡ n = omega (arith, length-append bytes fill, length-replicate {A = ℕ} (n - length bytes) 0) in
-        let enough : ltb (length (bytes ++ fill)) n ≡ false = le-ltb _ _ (omega arith) in
-        record {
-          more = fill;
-          value = take n (bytes ++ fill);
-          some = omega (arith, length-replicate {A = ℕ} (n - length bytes) 0);
-          reads = rw enough (ap (λ (t : List ℕ). Ok (take n (bytes ++ fill), t)) (drop_all (bytes ++ fill) n all));
-        }
-      | inr p ↦ absurd cc
-    ];
+      elim (chosen (ltb (length bytes) n) (Err Short) (Ok (take n bytes, drop n bytes)) (Err Short) e) [
+        | inl p ↦
+            let less : length bytes < n = ltb-true _ _ p.0 in
+            let fill = replicate (n - length bytes) 0 in
+            let all : length (bytes ++ fill) ≡ n = omega (arith, length-append bytes fill, length-replicate {A = ℕ} (n - length bytes) 0) in
+            let enough : ltb (length (bytes ++ fill)) n ≡ false = le-ltb _ _ (omega arith) in
+            record {
+              more = fill;
+              value = take n (bytes ++ fill);
+              some = omega (arith, length-replicate {A = ℕ} (n - length bytes) 0);
+              reads = rw enough (ap (λ (t : List ℕ). Ok (take n (bytes ++ fill), t)) (drop_all (bytes ++ fill) n all));
+            }
+        | inr p ↦ absurd cc
+      ];
   bad = λ bytes left e.
-    elim (chosen (ltb (length bytes) n) (Err Short) (Ok (take n bytes, drop n bytes)) (Err (Bad left)) e) [
-      | inl p ↦ absurd cc
-      | inr p ↦ absurd cc
-    ];
+      elim (chosen (ltb (length bytes) n) (Err Short) (Ok (take n bytes, drop n bytes)) (Err (Bad left)) e) [
+        | inl p ↦ absurd cc
+        | inr p ↦ absurd cc
+      ];
 } where
   drop_all : (bytes : List ℕ) (n : ℕ) → length bytes ≡ n → drop n bytes ≡ []
   drop_all bytes n len = ap (λ (t : List ℕ). drop n t) (sym (append-nil bytes)) ∙ drop_at bytes [] n len

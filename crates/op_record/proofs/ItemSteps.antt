@@ -31,7 +31,7 @@ goes_on front count at above bytes x after total le lt first so_far =
     let k : count - at ≡ suc (count - (at + 1)) = omega arith in
     let read : item_at (above + 1) (3 - (count - (at + 1))) bytes ≡ Ok (x, after) = ap (λ (high : ℕ). item_at (above + 1) high bytes) (highest count at le lt) ∙ first in
     let one : with_front front (more_items_at (count - at) above bytes) ≡ with_front (front ++ x ∷ []) (more_items_at (count - (at + 1)) x.kind after) =
-        rw (k, read) (regroup front x (more_items_at (count - (at + 1)) x.kind after)) in
+    rw (k, read) (regroup front x (more_items_at (count - (at + 1)) x.kind after)) in
     sym one ∙ so_far
 
 pub ends : (e : ReadError) (front : List Item) (count at above : ℕ) (bytes : List ℕ) (total : Read) → count ≤ 3 → at < count

@@ -24,8 +24,8 @@ byte_takes test [] x rest e = absurd cc
 byte_takes test (b ∷ bytes) x rest e =
     elim (chosen (test b) (Ok (b, bytes)) (Err (Bad (length (b ∷ bytes)))) (Ok (x, rest)) e) [
       | inl p ↦
-        let q = ok_parts b x bytes rest p.1 in
-        (subst (λ (v : ℕ). test v ≡ true) q.0 p.0, ap (λ (t : List ℕ). b ∷ t) q.1 ∙ ap (λ (v : ℕ). v ∷ rest) q.0)
+          let q = ok_parts b x bytes rest p.1 in
+          (subst (λ (v : ℕ). test v ≡ true) q.0 p.0, ap (λ (t : List ℕ). b ∷ t) q.1 ∙ ap (λ (v : ℕ). v ∷ rest) q.0)
       | inr p ↦ absurd cc
     ]
 
@@ -101,7 +101,7 @@ digits_again limit (suc left) m rest le =
     let low : b < 256 = subst (λ (v : ℕ). v < 256) (sym is) (mod_below (m / 256 ^ left) 256 (lit< tt)) in
     let fits : n * 256 + b ≤ limit / 256 ^ left = subst (λ (v : ℕ). v ≤ limit / 256 ^ left) (sym whole) (div_monotone m limit (256 ^ left) (pow_positive left) le) in
     let first : byte (may_go_on limit left n) (b ∷ (bytes_high_first left m ++ rest)) ≡ Ok (b, bytes_high_first left m ++ rest) =
-        byte_again (may_go_on limit left n) b (bytes_high_first left m ++ rest) (goes_on limit left n b low fits) in
+    byte_again (may_go_on limit left n) b (bytes_high_first left m ++ rest) (goes_on limit left n b low fits) in
     ap (λ (read : Result (ℕ × List ℕ) Fault). onward read (λ b. digits_at limit left (n * 256 + b))) first
     ∙ ap (λ (v : ℕ). digits_at limit left v (bytes_high_first left m ++ rest)) whole
     ∙ digits_again limit left m rest le

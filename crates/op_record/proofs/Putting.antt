@@ -13,11 +13,11 @@ use Rattle.op_record.specs.Writing.{Puts}
 pub then : (a b : List ℕ) (x y z : Vec ℕ Global) → Puts a x y → Puts b y z → Puts (a ++ b) x z
 then a b x y z p q = record {
   lands = λ room.
-    let n = length-append a b in
-    let first = p.lands (omega arith) in
-    let len : length y.items ≡ length x.items + length a = ap length first.0 ∙ length-append x.items a in
-    let second = q.lands (omega (arith, first.1)) in
-    (second.0 ∙ ap (λ (t : List ℕ). t ++ b) first.0 ∙ append_assoc x.items a b, omega (arith, first.1, second.1));
+      let n = length-append a b in
+      let first = p.lands (omega arith) in
+      let len : length y.items ≡ length x.items + length a = ap length first.0 ∙ length-append x.items a in
+      let second = q.lands (omega (arith, first.1)) in
+      (second.0 ∙ ap (λ (t : List ℕ). t ++ b) first.0 ∙ append_assoc x.items a b, omega (arith, first.1, second.1));
 }
 
 -- one text, and no other

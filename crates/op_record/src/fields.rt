@@ -116,7 +116,11 @@ pub(crate) fn text_at(bytes: &[u8], limit: u64) -> Result<(&[u8], &[u8]), ReadEr
 }
 
 /// A text of at most `limit` bytes, kept.
-pub(crate) fn kept_at(alloc: Global, bytes: &[u8], limit: u64) -> Result<(Vec<u8>, &[u8]), ReadError>
+pub(crate) fn kept_at(
+    alloc: Global,
+    bytes: &[u8],
+    limit: u64,
+) -> Result<(Vec<u8>, &[u8]), ReadError>
     ensures { Gives (λ x. (x.0.items, x.1.now)) result (text_at limit bytes.now) }
 {
     let (text, rest) = text_at(bytes, limit)?;

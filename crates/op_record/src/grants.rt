@@ -28,10 +28,7 @@ fn cap_at(bytes: &[u8]) -> Result<(Option<Cap>, &[u8]), ReadError>
 }
 
 #[tactic(auto, unfolding(crate::specs::Readers::option_at, crate::specs::Readers::bind, crate::specs::Readers::done))]
-fn some_interval_at(
-    alloc: Global,
-    bytes: &[u8],
-) -> Result<(Option<IntervalText>, &[u8]), ReadError>
+fn some_interval_at(alloc: Global, bytes: &[u8]) -> Result<(Option<IntervalText>, &[u8]), ReadError>
     ensures { Gives (λ x. (x.0, x.1.now)) result (option_at (text_at 128) bytes.now) }
 {
     let (flag, rest) = byte_between(bytes, 0, 1)?;

@@ -173,7 +173,9 @@ fn act_length(act: &Act) -> usize
         Act::Withdrawn { transfer, .. } => 14 + text_length(transfer.bytes()),
         Act::RateSet { .. } => 25,
         Act::IncomingMade {
-            amount, metadata, ..
+            amount,
+            metadata,
+            ..
         } => 21 + some_number_length(amount) + some_text_length(metadata),
         Act::IncomingCompleted { .. } => 17,
         Act::IncomingExpired { .. } => 9,

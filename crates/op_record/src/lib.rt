@@ -7,6 +7,8 @@ mod grants;
 mod laws;
 mod lengths;
 mod reading;
+#[cfg(test)]
+mod tests;
 mod writing;
 
 pub use laws::{no_record_begins_another, records_are_cut_one_way, records_read_back};

@@ -12,9 +12,11 @@ ghost use Rattle.op_record.specs.Recordable.{IsShort, AreLimits, IsFinish, IsIte
 ghost use Rattle.op_record.specs.Writing.{Puts};
 
 use crate::lengths::entry_length;
-use op_model::{Account, Act, Cap, Entry, FailReason, Finish, IntervalText, Item, Limits, QuoteMode, Text, Word};
+use op_model::{
+    Account, Act, Cap, CodeText, Entry, FailReason, Finish, IntervalText, Item, Limits, QuoteMode,
+    Rows, Text, Word,
+};
 use op_names::{AddressPath, ClientText, Origin};
-use op_model::{CodeText, Rows};
 use op_time::Moment;
 use std::alloc::AllocError;
 
@@ -304,7 +306,14 @@ fn put_drawn(out: &mut Vec<u8>, kind: u8, grant: u64, word: &Word)
     put(out, word);
 }
 
-fn put_incoming_made(out: &mut Vec<u8>, grant: u64, address: u32, amount: Option<u64>, expiry: Moment, metadata: &Option<Text>)
+fn put_incoming_made(
+    out: &mut Vec<u8>,
+    grant: u64,
+    address: u32,
+    amount: Option<u64>,
+    expiry: Moment,
+    metadata: &Option<Text>,
+)
     requires { IfSome metadata.now (IsShort 1024) }
     ensures { Puts (act_of (acts.IncomingMade grant address amount expiry metadata.now)) out.old out.new }
 {
@@ -316,7 +325,13 @@ fn put_incoming_made(out: &mut Vec<u8>, grant: u64, address: u32, amount: Option
     put_some_text(out, metadata);
 }
 
-fn put_grant_asked(out: &mut Vec<u8>, client: &ClientText, items: &Rows<Item>, finish: &Option<Finish>, word: &Word)
+fn put_grant_asked(
+    out: &mut Vec<u8>,
+    client: &ClientText,
+    items: &Rows<Item>,
+    finish: &Option<Finish>,
+    word: &Word,
+)
     requires { IsRecordableAct (acts.GrantAsked client.now items.now finish.now word.now) }
     ensures { Puts (act_of (acts.GrantAsked client.now items.now finish.now word.now)) out.old out.new }
 {

@@ -22,13 +22,13 @@ overflow_add-more c = omega (arith, power_low c.loop-at.at (omega arith), c.in-S
 pub returns-then-more-most-clause-gives : goal.returns-then-more-most-clause-gives
 returns-then-more-most-clause-gives c =
     let big : c.args.limit / 256 ^ (c.args.width - 1 - c.loop-at.at) < c.loop-at.number * 256 + c.in-Some.digit =
-        rw (← c.pow.ensures, ← c.from.ensures) c.if-more-most.true in
+    rw (← c.pow.ensures, ← c.from.ensures) c.if-more-most.true in
     digits_bad c.args.limit c.args.width c.loop-at.at c.loop-at.number c.in-Some.digit c.loop-at.rest.now c.in-Some.after.now _ c.loop-at-test.true c.in-Some.ensures.parts big c.loop-at.invariant.so_far
 
 pub loop-at-preserved : goal.loop-at-preserved
 loop-at-preserved c =
     let le : c.loop-at.number * 256 + c.in-Some.digit ≤ c.args.limit / 256 ^ (c.args.width - 1 - c.loop-at.at) =
-        rw (← c.pow.ensures, ← c.from.ensures) c.if-more-most.false in
+    rw (← c.pow.ensures, ← c.from.ensures) c.if-more-most.false in
     rw c.from.ensures (record {
       so_far = digits_more c.args.limit c.args.width c.loop-at.at c.loop-at.number c.in-Some.digit c.loop-at.rest.now c.in-Some.after.now _ c.loop-at-test.true c.in-Some.ensures.parts c.in-Some.ensures.small le c.loop-at.invariant.so_far;
       few = digit_fits c.loop-at.at c.loop-at.number c.in-Some.digit c.loop-at.invariant.few c.in-Some.ensures.small;
