@@ -147,8 +147,8 @@ pub(crate) fn some_text_at(
 pub(crate) fn some_u64_at(bytes: &[u8]) -> Result<(Option<u64>, &[u8]), ReadError>
     ensures { Gives (λ x. (x.0, x.1.now)) result (option_at u64_at bytes.now) }
 {
-    let (flag, rest) = byte_between(bytes, 0, 1)?;
-    if flag == 0 {
+    let (present, rest) = byte_between(bytes, 0, 1)?;
+    if present == 0 {
         return Ok((None, rest));
     }
     let (number, rest) = u64_at(rest)?;
@@ -186,8 +186,8 @@ pub(crate) fn mode_at(bytes: &[u8]) -> Result<(QuoteMode, &[u8]), ReadError>
 pub(crate) fn reason_at(bytes: &[u8]) -> Result<(FailReason, &[u8]), ReadError>
     ensures { Gives (λ x. (x.0, x.1.now)) result (reason_at bytes.now) }
 {
-    let (number, rest) = byte_between(bytes, 1, 3)?;
-    let reason = match number {
+    let (reason, rest) = byte_between(bytes, 1, 3)?;
+    let reason = match reason {
         1 => FailReason::QuoteExpired,
         2 => FailReason::ReceiverClosed,
         _ => FailReason::Cancelled,
