@@ -1,0 +1,12 @@
+pub mod Good
+pub mod Numbers
+pub mod FieldLaws
+pub mod Parts
+pub mod ItemLaws
+pub mod ActLaws
+pub mod Digits
+pub mod ItemSteps
+pub mod CutLaws
+pub mod Entries
+pub mod Putting
+pub mod LengthLaws

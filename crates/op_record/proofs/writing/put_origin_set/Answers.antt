@@ -1,0 +1,5 @@
+use Rattle.op_record.proofs.Putting.{then, last}
+use Rattle.op_record.proofs.writing.put_origin_set.Goals as goal
+
+pub returns : goal.returns
+returns c = then _ _ _ _ _ c.put_u8.ensures (last _ _ _ (rw c.as_bytes.ensures.value at c.put_text.ensures))

@@ -1,0 +1,5 @@
+use Rattle.op_record.proofs.Putting.{then, last}
+use Rattle.op_record.proofs.writing.put_rate_set.Goals as goal
+
+pub returns : goal.returns
+returns c = then _ _ _ _ _ c.put_u8.ensures (then _ _ _ _ _ c.put_u32.ensures (then _ _ _ _ _ c.put_u32-2.ensures (then _ _ _ _ _ c.put_u64.ensures (last _ _ _ c.put_u64-2.ensures))))

@@ -1,0 +1,9 @@
+pub mod Fields
+pub mod Records
+pub mod Recordable
+pub mod Readers
+pub mod Rows
+pub mod Cuts
+pub mod Reading
+pub mod Laws
+pub mod Writing

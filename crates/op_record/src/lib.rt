@@ -1,0 +1,28 @@
+//! Records of entries: what a journal keeps of a history.
+#![tactic(auto)]
+
+mod fault;
+mod fields;
+mod grants;
+mod laws;
+mod lengths;
+mod reading;
+#[cfg(test)]
+mod tests;
+mod writing;
+
+pub use laws::{no_record_begins_another, records_are_cut_one_way, records_read_back};
+pub use lengths::entry_length;
+pub use reading::read_entry;
+pub use writing::write_entry;
+
+/// Why bytes are no record.
+#[derive(Clone, Copy, Debug, PartialEq, Eq)]
+pub enum RecordFault {
+    /// A record begins with them, and goes on.
+    Short,
+    /// No record begins with the bytes up to and with this place, and this is the first such place.
+    Bad { at: u64 },
+    /// Memory was wanting.
+    Memory,
+}
