@@ -1,9 +1,9 @@
 -- The stream of requests: which bytes are a request (RFC 9112), where the next one begins, and which beginnings are
 -- refused. Heads are those of the grammar that `httparse` reads. The limits, and that a body's length is told by
 -- `content-length` alone, are this project's own.
-use Rattle.std.specs.Prelude.{◌≡◌, ◌⊎◌, ⊤, ℕ, ◌≤◌, ◌<◌, Bool, true, false, not, ◌&&◌, ◌||◌, ◌==◌, nat_le, nat_eq, IsTrue, if◌then◌else◌, List, [], ◌∷◌, ◌++◌, length, take, map, codes, Some, None, unwrap_or}
+use Rattle.std.specs.Prelude.{◌≡◌, ◌⊎◌, ⊤, ℕ, ◌≤◌, ◌<◌, Bool, true, false, not, ◌&&◌, ◌||◌, ◌==◌, nat_le, nat_eq, IsTrue, if◌then◌else◌, List, [], ◌∷◌, ◌++◌, length, take, map, codes, Some, None}
 use Rattle.std.specs.Char.{is_ascii_digit}
-use Rattle.std.specs.List.{list_all, list_any, filter_map, find, ends_with, range_with_len}
+use Rattle.std.specs.List.{list_all, list_any, filter_map, ends_with}
 use Rattle.std.specs.Str.{bytes_eq, str_eq_ignore_ascii_case}
 use Rattle.std.specs.Str.Parse.{digits_value}
 use Rattle.std.specs.declared.option.Option.{Option}
@@ -33,13 +33,15 @@ abbrev pub ends_with_mark : List ℕ → Bool
 ends_with_mark text =
     (ends_with nat_eq text (codes "\n\n") || ends_with nat_eq text (codes "\n\r\n")) && list_any (λ b. not (is_line_byte b)) text
 
--- where the first end mark ends, if it ends within a head's limit
-abbrev pub first_mark : List ℕ → Option ℕ
-first_mark rest = find (λ n. ends_with_mark (take n rest)) (range_with_len 1 head_limit)
+-- the text up to and with the first place where it ends with an end mark, or all of it; seen stands before it
+abbrev pub through_mark : (seen text : List ℕ) → List ℕ
+through_mark seen [] = []
+through_mark seen (b ∷ text) =
+    if ends_with_mark (seen ++ b ∷ []) then b ∷ [] else b ∷ through_mark (seen ++ b ∷ []) text
 
 -- what is left up to and with its first end mark, or as much of it as a head may have
 abbrev pub window_of : List ℕ → List ℕ
-window_of rest = take (unwrap_or (first_mark rest) head_limit) rest
+window_of rest = take head_limit (through_mark [] rest)
 
 -- ---- heads
 
@@ -105,6 +107,10 @@ pub record BeginsWithRequest (rest : List ℕ) (raw : Raw) (behind : List ℕ) :
   pub unchunked : has_field (codes "transfer-encoding") raw.fields ≡ false
   pub counted : body_length raw.fields ≡ Some (length raw.body)
   pub limit : length raw.body ≤ body_limit
+
+-- the text is this request, whatever follows it
+abbrev pub IsWholeRequest : List ℕ → Raw → Type 0
+IsWholeRequest text raw = (behind : List ℕ) → BeginsWithRequest (text ++ behind) raw behind
 
 -- ---- what is refused
 

@@ -1,0 +1,5 @@
+pub mod Heads
+pub mod Numbers
+pub mod Stream
+pub mod Telling
+pub mod Windows

@@ -1,0 +1,5 @@
+pub mod Head
+pub mod Held
+pub mod Lengths
+pub mod Marks
+pub mod Reader

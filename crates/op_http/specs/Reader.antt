@@ -1,0 +1,60 @@
+-- The reader of requests: what a call reads.
+use Rattle.std.specs.Prelude.{◌≡◌, ℕ, ◌+◌, List, [], ◌++◌, length, IfSome, MatchResult, MatchOption}
+use Rattle.std.specs.Io.KnownBytes.{Consumes, IsAtEnd, prepend_known}
+use Rattle.std.specs.declared.option.Option.{Option}
+use Rattle.std.specs.declared.result.Result.{Result}
+use Rattle.op_model.specs.Requests.{Raw, IsWholeRequest, IsEnded, IsBadHttp, IsLengthRequired, IsTooLarge, BeginsWithNoRequest}
+use Rattle.op_http.specs.Held.{Held}
+use Rattle.op_http.specs.declared.reader.FillFault.{FillFault}
+use Rattle.op_http.specs.declared.reader.FillFault.TheVariants.{Read, NoMemory}
+use Rattle.op_http.specs.declared.reader.HttpFault.{HttpFault}
+use Rattle.op_http.specs.declared.reader.HttpFault.TheVariants.{BadHttp, LengthRequired, TooLarge, ReadFault, Memory}
+
+-- what is to be read: what the reader holds, and then what the source has left, where it tells it
+abbrev pub stream : Held → Option (List ℕ) → Option (List ℕ)
+stream held left = prepend_known held.bytes left
+
+-- more of the source is held
+pub record Fills (old new : Held) (left left' : Option (List ℕ)) : Type 0 where
+  pub piece : List ℕ
+  pub bytes : new.bytes ≡ old.bytes ++ piece
+  pub taken : Consumes left left' piece
+  pub at : new.at ≡ old.at
+
+-- nothing is taken from the stream
+abbrev pub Stays : (old new : Held) (left left' : Option (List ℕ)) → Type 0
+Stays old new left left' = Consumes (stream old left) (stream new left') [] × (new.at ≡ old.at)
+
+-- the stream begins with this request, which is taken from it
+pub record Takes (old new : Held) (left left' : Option (List ℕ)) (raw : Raw) : Type 0 where
+  pub text : List ℕ
+  pub request : IsWholeRequest text raw
+  pub taken : Consumes (stream old left) (stream new left') text
+  pub at : new.at ≡ old.at + length text
+
+-- the stream has ended, and what is held is all of it
+abbrev pub HasEnded : (old new : Held) (left left' : Option (List ℕ)) → Type 0
+HasEnded old new left left' = Stays old new left left' × IsEnded new.bytes × IsAtEnd left'
+
+-- the stream is refused, where it stands
+abbrev pub RefusesAt : (old new : Held) (left left' : Option (List ℕ)) → ℕ → (List ℕ → Type 0) → Type 0
+RefusesAt old new left left' at P = Stays old new left left' × (at ≡ old.at) × IfSome (stream old left) P
+
+-- why there is no request
+abbrev pub Refuses : (old new : Held) (left left' : Option (List ℕ)) → HttpFault → Type 0
+Refuses old new left left' (BadHttp at) = RefusesAt old new left left' at IsBadHttp
+Refuses old new left left' (LengthRequired at) = RefusesAt old new left left' at IsLengthRequired
+Refuses old new left left' (TooLarge at) = RefusesAt old new left left' at IsTooLarge
+Refuses old new left left' ReadFault = Stays old new left left' × BeginsWithNoRequest new.bytes
+Refuses old new left left' Memory = Stays old new left left'
+
+-- what a call for the next request answers
+abbrev pub Reads : (old new : Held) (left left' : Option (List ℕ)) → Result (Option Raw) HttpFault → Type 0
+Reads old new left left' result = MatchResult result
+    (λ found. MatchOption found (HasEnded old new left left') (Takes old new left left'))
+    (Refuses old new left left')
+
+-- the answer where no more of the stream is held
+abbrev pub fault_of : FillFault → HttpFault
+fault_of Read = ReadFault
+fault_of NoMemory = Memory

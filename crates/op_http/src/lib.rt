@@ -1,0 +1,16 @@
+//! HTTP: the requests of a stream, the route of each, and whole texts to a sink.
+//!
+//! `Reader` reads a stream by the definitions of op_model: which bytes are a request, where the next one begins, and
+//! which beginnings are refused. `route` finds what a request asks for.
+#![tactic(auto)]
+
+mod head;
+mod length;
+mod marks;
+mod reader;
+mod request;
+mod write;
+
+pub use reader::{HttpFault, Reader};
+pub use request::{Field, RawRequest};
+pub use write::write_all;
