@@ -1,5 +1,5 @@
 -- End marks, and the window that they end.
-use Rattle.std.proofs.Common.{◌≡◌, ◌≤◌, ◌<◌, ◌+◌, ◌-◌, ℕ, zero, suc, Bool, true, false, ◌&&◌, ◌||◌, not, List, [], ◌∷◌, ◌++◌, codes, nat_eq, length, take, drop, refl, sym, ap, subst, ◌∙◌, inl, inr, arith, cond, append_assoc, length-append, nat_lt}
+use Rattle.std.proofs.Common.{◌≡◌, ◌≤◌, ◌<◌, ◌+◌, ◌-◌, ℕ, zero, suc, Bool, true, false, ◌&&◌, ◌||◌, not, List, [], ◌∷◌, ◌++◌, codes, nat_eq, length, take, drop, refl, sym, ap, subst, ◌∙◌, inl, inr, arith, cond, append_assoc, length-append, nat_lt, min}
 use Rattle.std.specs.List.{ends_with, list_any}
 use Rattle.std.proofs.lemmas.List.{take-take, take-append-le, take-append-drop, take_at, drop_at, append-nil, length-take, take_all}
 use Rattle.std.proofs.Math.Seq.{take-length}
@@ -66,3 +66,26 @@ window_at_mark text more n is short =
 pub window_unmarked : (text : List ℕ) → HasNoMark (take head_limit text) → window_of text ≡ take head_limit text
 window_unmarked text none =
     through_none head_limit [] text (λ k below some. ap ends_with_mark (sym (take-take k head_limit text below)) ∙ none k)
+
+-- ---- in the front of the bytes that are held
+
+pub first_in_front : (bytes : List ℕ) (m front n : ℕ) → front ≡ min (length bytes) m → IsFirstMark (take front bytes) n → IsFirstMark bytes n × (n ≤ m)
+first_in_front bytes m front n count is =
+    let short : n ≤ front = omega (arith, is.within, length-take front bytes) in (
+      record {
+        ends = ap ends_with_mark (sym (take-take n front bytes short)) ∙ is.ends;
+        first = λ k below. ap ends_with_mark (sym (take-take k front bytes (omega arith))) ∙ is.first k below;
+        within = omega arith;
+      },
+      omega arith,
+    )
+
+pub none_in_front : (bytes : List ℕ) (m front : ℕ) → front ≡ min (length bytes) m → m ≤ length bytes → HasNoMark (take front bytes) → HasNoMark (take m bytes)
+none_in_front bytes m front count long none =
+    let same : front ≡ m = omega arith in
+    subst (λ (n : ℕ). HasNoMark (take n bytes)) same none
+
+pub none_at_all : (bytes : List ℕ) (m front : ℕ) → front ≡ min (length bytes) m → length bytes < m → HasNoMark (take front bytes) → HasNoMark bytes
+none_at_all bytes m front count short none =
+    let same : front ≡ length bytes = omega arith in
+    subst HasNoMark (ap (λ (n : ℕ). take n bytes) same ∙ take-length bytes) none

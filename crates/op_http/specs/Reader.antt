@@ -1,10 +1,12 @@
 -- The reader of requests: what a call reads.
-use Rattle.std.specs.Prelude.{◌≡◌, ℕ, ◌+◌, List, [], ◌++◌, length, IfSome, MatchResult, MatchOption}
+use Rattle.std.specs.Prelude.{◌≡◌, ℕ, ◌+◌, ◌-◌, ◌<◌, List, [], ◌++◌, length, take, drop, IfSome, MatchResult, MatchOption}
 use Rattle.std.specs.Io.KnownBytes.{Consumes, IsAtEnd, prepend_known}
 use Rattle.std.specs.declared.option.Option.{Option}
 use Rattle.std.specs.declared.result.Result.{Result}
-use Rattle.op_model.specs.Requests.{Raw, IsWholeRequest, IsEnded, IsBadHttp, IsLengthRequired, IsTooLarge, BeginsWithNoRequest}
+use Rattle.op_model.specs.Requests.{head_limit, Raw, IsWholeRequest, IsEnded, IsBadHttp, IsLengthRequired, IsTooLarge, BeginsWithNoRequest}
+use Rattle.op_http.specs.Head.{HeadParts}
 use Rattle.op_http.specs.Held.{Held}
+use Rattle.op_http.specs.Marks.{HasNoMark}
 use Rattle.op_http.specs.declared.reader.FillFault.{FillFault}
 use Rattle.op_http.specs.declared.reader.FillFault.TheVariants.{Read, NoMemory}
 use Rattle.op_http.specs.declared.reader.HttpFault.{HttpFault}
@@ -20,6 +22,19 @@ pub record Fills (old new : Held) (left left' : Option (List ℕ)) : Type 0 wher
   pub bytes : new.bytes ≡ old.bytes ++ piece
   pub taken : Consumes left left' piece
   pub at : new.at ≡ old.at
+
+-- what is held does not tell where the window ends
+abbrev pub IsOpen : List ℕ → Type 0
+IsOpen bytes = (length bytes < head_limit) × HasNoMark bytes
+
+-- the request with this head, which ends behind so many bytes, is cut off from what is held
+pub record CutsOff (old new : Held) (head : HeadParts) (end : ℕ) (raw : Raw) : Type 0 where
+  pub method : raw.method ≡ head.method
+  pub target : raw.target ≡ head.target
+  pub fields : raw.fields ≡ head.fields
+  pub body : raw.body ≡ take (end - head.len) (drop head.len old.bytes)
+  pub left : new.bytes ≡ drop end old.bytes
+  pub at : new.at ≡ old.at + end
 
 -- nothing is taken from the stream
 abbrev pub Stays : (old new : Held) (left left' : Option (List ℕ)) → Type 0

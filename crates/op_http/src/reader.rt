@@ -1,15 +1,18 @@
 //! The reader of a stream.
-ghost use Rattle.std.specs.Prelude.{◌≡◌, ◌<◌, ◌≤◌, ◌+◌, ◌-◌, ◌^◌, ◌++◌, ℕ, List, [], Some, length, drop, max, IfOk, OnErr, IsErrOf, MatchOption, vec_len};
+ghost use Rattle.std.specs.Prelude.{◌≡◌, ◌<◌, ◌≤◌, ◌+◌, ◌-◌, ◌^◌, ◌++◌, ℕ, List, [], Option, Some, length, drop, max, IsTrue, ◌↔◌, IfOk, OnErr, IsErrOf, MatchOption, vec_len};
+ghost use Rattle.std.specs.Bool.{MatchBool};
 ghost use Rattle.std.specs.Io.KnownBytes.{Consumes, IsAtEnd, Keeps};
 ghost use Rattle.op_causes.specs.Causes.{Rose};
-ghost use Rattle.op_http.specs.Reader.{fault_of};
+ghost use Rattle.op_model.specs.Requests.{IsEnded};
+ghost use Rattle.op_http.specs.Marks.{HasNoMark, IsFirstMark, IsEdge};
+ghost use Rattle.op_http.specs.Reader.{fault_of, IsOpen};
 
-//use crate::head::{Head, take_head};
-//use crate::length::{body_length, has_field};
-//use crate::marks::first_mark;
-//use crate::request::RawRequest;
+use crate::head::{Head, take_head};
+use crate::length::{body_length, has_field};
+use crate::marks::first_mark;
+use crate::request::RawRequest;
 use op_ports::Source;
-use std::alloc::Global;
+use std::alloc::{AllocError, Global};
 use std::marker::Model;
 
 /// The most bytes of a head.
@@ -66,6 +69,36 @@ fn fault_of(fault: FillFault) -> HttpFault
     }
 }
 
+fn is_text(bytes: &[u8], text: &[u8]) -> bool
+    ensures { IsTrue result ↔ (bytes.now ≡ text.now) }
+{
+    bytes == text
+}
+
+/// Whether there is nothing, but perhaps one empty line.
+fn is_blank(bytes: &[u8]) -> bool
+    ensures { IsTrue result ↔ IsEnded bytes.now }
+{
+    is_text(bytes, b"") || is_text(bytes, b"\r\n") || is_text(bytes, b"\n")
+}
+
+/// Where the window ends, if these bytes tell it.
+fn edge_of(bytes: &[u8]) -> Option<Edge>
+    ensures { MatchOption result (IsOpen bytes.now) (λ edge. (left : Option (List ℕ)) → IsEdge bytes.now left edge) }
+{
+    let front = &bytes[..bytes.len().min(HEAD_LIMIT)];
+    match first_mark(front) {
+        Some(end) => Some(Edge::Mark(end)),
+        None => {
+            if bytes.len() < HEAD_LIMIT {
+                None
+            } else {
+                Some(Edge::Limit)
+            }
+        }
+    }
+}
+
 /// Takes bytes from the front.
 fn drop_front(kept: &mut Vec<u8>, count: usize)
     requires { count ≤ vec_len kept.old }
@@ -112,4 +145,127 @@ impl Model for Reader {
     ghost Value = { Held };
 
     ghost view = { λ a. record { bytes = a.kept.items; at = a.place } };
+}
+
+impl Reader {
+    ghost use Rattle.op_model.specs.Requests.{head_limit, body_limit};
+    ghost use Rattle.op_http.specs.Head.{HoldsHead};
+    ghost use Rattle.op_http.specs.Reader.{Fills, Reads, CutsOff};
+
+    /// A reader that has read nothing.
+    pub fn new(alloc: Global) -> Reader
+        ensures { result ≡ record { bytes = []; at = 0 } }
+    {
+        Reader {
+            kept: Vec::new(alloc),
+            place: 0,
+        }
+    }
+
+    fn len(&self) -> usize
+        ensures { result ≡ length self.now.bytes }
+    {
+        self.kept.len()
+    }
+
+    fn bad_http(&self) -> HttpFault
+        ensures { result ≡ HttpFault.BadHttp self.now.at }
+    {
+        HttpFault::BadHttp { at: self.place }
+    }
+
+    fn length_required(&self) -> HttpFault
+        ensures { result ≡ HttpFault.LengthRequired self.now.at }
+    {
+        HttpFault::LengthRequired { at: self.place }
+    }
+
+    fn too_large(&self) -> HttpFault
+        ensures { result ≡ HttpFault.TooLarge self.now.at }
+    {
+        HttpFault::TooLarge { at: self.place }
+    }
+
+    /// Whether nothing is held, but perhaps one empty line.
+    fn is_blank(&self) -> bool
+        ensures { IsTrue result ↔ IsEnded self.now.bytes }
+    {
+        is_blank(&self.kept)
+    }
+
+    /// Holds some more of the source, none exactly at its end, up to so many bytes in all.
+    fn more<S: Source>(&mut self, source: &mut S, most: usize) -> Result<usize, FillFault>
+        requires { length self.old.bytes < most }
+        ensures fills { Fills self.old self.new (S.left source.old) (S.left source.new) }
+        ensures most { length self.new.bytes ≤ most }
+        ensures count { IfOk result (λ n. length self.new.bytes ≡ length self.old.bytes + n) }
+        ensures end { IfOk result (λ n. n ≡ 0 → (self.new.bytes ≡ self.old.bytes) × IsAtEnd (S.left source.new)) }
+        ensures err { OnErr result (self.new.bytes ≡ self.old.bytes) }
+        ensures cause { IsErrOf result FillFault.Read → Rose (S.faults source.old) (S.faults source.new) }
+        ensures faults { ¬ IsErrOf result FillFault.Read → S.faults source.new ≡ S.faults source.old }
+    {
+        let most = most - self.kept.len();
+        fill(&mut self.kept, source, most)
+    }
+
+    /// Where the window ends, if what is held tells it.
+    fn edge(&self) -> Option<Edge>
+        ensures { MatchOption result (IsOpen self.now.bytes) (λ edge. (left : Option (List ℕ)) → IsEdge self.now.bytes left edge) }
+    {
+        edge_of(&self.kept)
+    }
+
+    /// Reads on until what is held tells where the window ends.
+    fn find_edge<S: Source>(&mut self, source: &mut S) -> Result<Edge, FillFault>
+        ensures fills { Fills self.old self.new (S.left source.old) (S.left source.new) }
+        ensures edge { IfOk result (IsEdge self.new.bytes (S.left source.new)) }
+        ensures open { OnErr result (HasNoMark self.new.bytes) }
+        ensures kept { length self.new.bytes ≤ max (length self.old.bytes) head_limit }
+        ensures cause { IsErrOf result FillFault.Read → Rose (S.faults source.old) (S.faults source.new) }
+        ensures faults { ¬ IsErrOf result FillFault.Read → S.faults source.new ≡ S.faults source.old }
+    {
+        'reading: loop {
+            if let Some(edge) = self.edge() {
+                return Ok(edge);
+            }
+            match self.more(source, HEAD_LIMIT) {
+                Ok(0) => return Ok(Edge::End),
+                Ok(_) => {}
+                Err(fault) => return Err(fault),
+            }
+        }
+    }
+
+    /// Reads on until this many bytes are held. `false` exactly where the stream ends before.
+    fn hold<S: Source>(&mut self, source: &mut S, count: usize) -> Result<bool, FillFault>
+        ensures fills { Fills self.old self.new (S.left source.old) (S.left source.new) }
+        ensures held { IfOk result (λ whole. MatchBool whole (count ≤ length self.new.bytes) ((length self.new.bytes < count) × IsAtEnd (S.left source.new))) }
+        ensures short { OnErr result (length self.new.bytes < count) }
+        ensures kept { length self.new.bytes ≤ max (length self.old.bytes) count }
+        ensures cause { IsErrOf result FillFault.Read → Rose (S.faults source.old) (S.faults source.new) }
+        ensures faults { ¬ IsErrOf result FillFault.Read → S.faults source.new ≡ S.faults source.old }
+    {
+        'reading: while self.len() < count {
+            match self.more(source, count) {
+                Ok(0) => return Ok(false),
+                Ok(_) => {}
+                Err(fault) => return Err(fault),
+            }
+        }
+        Ok(true)
+    }
+
+    /// Takes a request that is held whole. Where memory is wanting nothing is taken.
+    fn cut(&mut self, alloc: Global, head: Head, end: usize) -> Result<RawRequest, AllocError>
+        requires head { head.len ≤ end }
+        requires held { end ≤ length self.old.bytes }
+        requires place { self.old.at < 2 ^ 60 }
+        ensures cut { IfOk result (CutsOff self.old self.new head end) }
+        ensures err { OnErr result (self.new ≡ self.old) }
+    {
+        let body = Vec::from_slice(alloc, &self.kept[head.len..end])?;
+        drop_front(&mut self.kept, end);
+        self.place += end as u64;
+        Ok(RawRequest::new(head.method, head.target, head.fields, body))
+    }
 }
