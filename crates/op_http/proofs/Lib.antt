@@ -1,5 +1,6 @@
 pub mod Heads
 pub mod Numbers
+pub mod Requests
 pub mod Stream
 pub mod Telling
 pub mod Windows

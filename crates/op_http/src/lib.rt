@@ -4,6 +4,7 @@
 //! which beginnings are refused. `route` finds what a request asks for.
 #![tactic(auto)]
 
+mod frame;
 mod head;
 mod length;
 mod marks;
