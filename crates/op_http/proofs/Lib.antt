@@ -1,5 +1,6 @@
 pub mod Heads
 pub mod Numbers
+pub mod Reading
 pub mod Requests
 pub mod Stream
 pub mod Telling

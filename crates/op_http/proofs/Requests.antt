@@ -107,12 +107,12 @@ fields_told : (bytes more : List ℕ) (n : ℕ) (chunked : Bool) (P : List (List
     → IsFirstMark bytes n → n ≤ head_limit → HoldsHead (take n bytes) p → has_field (codes "transfer-encoding") p.fields ≡ chunked
     → P p.fields (drop p.len bytes ++ more) → HasFields chunked (bytes ++ more) P
 fields_told bytes more n chunked P p is short holds test fact = (
-      holds.head,
-      drop p.len bytes ++ more,
-      has_head bytes more n p is short holds,
-      ap (has_field (codes "transfer-encoding")) (sym holds.fields) ∙ test,
-      subst (λ (fields : List (List ℕ × List ℕ)). P fields (drop p.len bytes ++ more)) holds.fields fact,
-    )
+  holds.head,
+  drop p.len bytes ++ more,
+  has_head bytes more n p is short holds,
+  ap (has_field (codes "transfer-encoding")) (sym holds.fields) ∙ test,
+  subst (λ (fields : List (List ℕ × List ℕ)). P fields (drop p.len bytes ++ more)) holds.fields fact,
+)
 
 pub chunked_refused : (bytes more : List ℕ) (n : ℕ) → IsFirstMark bytes n → n ≤ head_limit → HoldsFields (take n bytes) true (λ fields. ⊤) → IsLengthRequired (bytes ++ more)
 chunked_refused bytes more n is short h = fields_told bytes more n true (λ fields behind. ⊤) h.0 is short h.1 h.2 h.3
@@ -130,10 +130,12 @@ pub cut_short_refused : (bytes more : List ℕ) (n : ℕ) (p : HeadParts) (size 
     → length (bytes ++ more) < p.len + size → IsBadHttp (bytes ++ more)
 cut_short_refused bytes more n p size is short frames few =
     let few_behind : length (drop p.len bytes ++ more) < size =
-    omega (arith, is.within, (head_is_window bytes n p is frames.holds).0, length-append bytes more, length-append (drop p.len bytes) more, length-drop p.len bytes) in
-    (not_ended bytes more n is, inr (inr (fields_told bytes more n false
-    (λ fields behind. (size : ℕ) × (body_length fields ≡ Some size) × (size ≤ body_limit) × (length behind < size))
-    p is short frames.holds frames.unchunked (size, frames.counted, frames.limit, few_behind))))
+    omega (arith, is.within, (head_is_window bytes n p is frames.holds).0, length-append bytes more, length-append (drop p.len bytes) more, length-drop p.len bytes) in (
+      not_ended bytes more n is,
+      inr (inr (fields_told bytes more n false
+          (λ fields behind. (size : ℕ) × (body_length fields ≡ Some size) × (size ≤ body_limit) × (length behind < size))
+          p is short frames.holds frames.unchunked (size, frames.counted, frames.limit, few_behind))),
+    )
 
 none_in_take : (bytes : List ℕ) (m : ℕ) → HasNoMark bytes → HasNoMark (take m bytes)
 none_in_take bytes m none k =

@@ -1,14 +1,16 @@
 -- The reader of requests: what a call reads.
-use Rattle.std.specs.Prelude.{◌≡◌, ℕ, ◌+◌, ◌-◌, ◌<◌, List, [], ◌++◌, length, take, drop, IfSome, MatchResult, MatchOption}
+use Rattle.std.specs.Prelude.{◌≡◌, ℕ, ◌+◌, ◌-◌, ◌<◌, ◌≤◌, List, [], ◌++◌, length, take, drop, IfSome, MatchResult, MatchOption}
 use Rattle.std.specs.Io.KnownBytes.{Consumes, IsAtEnd, prepend_known}
 use Rattle.std.specs.declared.option.Option.{Option}
 use Rattle.std.specs.declared.result.Result.{Result}
 use Rattle.op_model.specs.Requests.{head_limit, Raw, IsWholeRequest, IsEnded, IsBadHttp, IsLengthRequired, IsTooLarge, BeginsWithNoRequest}
-use Rattle.op_http.specs.Head.{HeadParts}
+use Rattle.op_http.specs.Head.{HeadParts, Frames}
 use Rattle.op_http.specs.Held.{Held}
-use Rattle.op_http.specs.Marks.{HasNoMark}
+use Rattle.op_http.specs.Marks.{HasNoMark, IsFirstMark}
+use Rattle.op_http.specs.declared.frame.FrameFault.{FrameFault}
+use Rattle.op_http.specs.declared.frame.FrameFault.TheVariants.{NoHead, Chunked, BadLength, LongBody, NoMemory}
 use Rattle.op_http.specs.declared.reader.FillFault.{FillFault}
-use Rattle.op_http.specs.declared.reader.FillFault.TheVariants.{Read, NoMemory}
+use Rattle.op_http.specs.declared.reader.FillFault.TheVariants.{Read, Full}
 use Rattle.op_http.specs.declared.reader.HttpFault.{HttpFault}
 use Rattle.op_http.specs.declared.reader.HttpFault.TheVariants.{BadHttp, LengthRequired, TooLarge, ReadFault, Memory}
 
@@ -35,6 +37,12 @@ pub record CutsOff (old new : Held) (head : HeadParts) (end : ℕ) (raw : Raw) :
   pub body : raw.body ≡ take (end - head.len) (drop head.len old.bytes)
   pub left : new.bytes ≡ drop end old.bytes
   pub at : new.at ≡ old.at + end
+
+-- the head at the front is held, and it tells a body of this size
+pub record IsFramed (bytes : List ℕ) (head : HeadParts) (size : ℕ) : Type 0 where
+  pub mark : IsFirstMark bytes head.len
+  pub limit : head.len ≤ head_limit
+  pub frames : Frames (take head.len bytes) head size
 
 -- nothing is taken from the stream
 abbrev pub Stays : (old new : Held) (left left' : Option (List ℕ)) → Type 0
@@ -63,6 +71,10 @@ Refuses old new left left' (TooLarge at) = RefusesAt old new left left' at IsToo
 Refuses old new left left' ReadFault = Stays old new left left' × BeginsWithNoRequest new.bytes
 Refuses old new left left' Memory = Stays old new left left'
 
+-- the request of a head that is held, or why there is none
+abbrev pub ReadsOne : (old new : Held) (left left' : Option (List ℕ)) → Result Raw HttpFault → Type 0
+ReadsOne old new left left' result = MatchResult result (Takes old new left left') (Refuses old new left left')
+
 -- what a call for the next request answers
 abbrev pub Reads : (old new : Held) (left left' : Option (List ℕ)) → Result (Option Raw) HttpFault → Type 0
 Reads old new left left' result = MatchResult result
@@ -72,4 +84,12 @@ Reads old new left left' result = MatchResult result
 -- the answer where no more of the stream is held
 abbrev pub fault_of : FillFault → HttpFault
 fault_of Read = ReadFault
-fault_of NoMemory = Memory
+fault_of Full = Memory
+
+-- the answer where the window tells no body
+abbrev pub refusal_at : ℕ → FrameFault → HttpFault
+refusal_at at NoHead = BadHttp at
+refusal_at at BadLength = BadHttp at
+refusal_at at Chunked = LengthRequired at
+refusal_at at LongBody = TooLarge at
+refusal_at at NoMemory = Memory

@@ -1,5 +1,5 @@
 //! The reader of a stream.
-ghost use Rattle.std.specs.Prelude.{◌≡◌, ◌<◌, ◌≤◌, ◌+◌, ◌-◌, ◌^◌, ◌++◌, ℕ, List, [], Option, Some, length, drop, max, IsTrue, ◌↔◌, IfOk, OnErr, IsErrOf, MatchOption, vec_len};
+ghost use Rattle.std.specs.Prelude.{◌≡◌, ◌<◌, ◌≤◌, ◌+◌, ◌-◌, ◌^◌, ◌++◌, ℕ, List, [], Option, Some, length, take, drop, max, ◌≢◌, IsTrue, ◌↔◌, IfOk, IfErr, OnErr, IsErrOf, MatchOption, vec_len};
 ghost use Rattle.std.specs.Bool.{MatchBool};
 ghost use Rattle.std.specs.Io.KnownBytes.{Consumes, IsAtEnd, Keeps};
 ghost use Rattle.op_causes.specs.Causes.{Rose};
@@ -7,8 +7,8 @@ ghost use Rattle.op_model.specs.Requests.{IsEnded};
 ghost use Rattle.op_http.specs.Marks.{HasNoMark, IsFirstMark, IsEdge};
 ghost use Rattle.op_http.specs.Reader.{fault_of, IsOpen};
 
-use crate::head::{Head, take_head};
-use crate::length::{body_length, has_field};
+use crate::frame::{Frame, FrameFault, read_frame};
+use crate::head::Head;
 use crate::marks::first_mark;
 use crate::request::RawRequest;
 use op_ports::Source;
@@ -17,9 +17,6 @@ use std::marker::Model;
 
 /// The most bytes of a head.
 const HEAD_LIMIT: usize = 16_384;
-
-/// The most bytes of a body.
-const BODY_LIMIT: u64 = 65_536;
 
 /// The most bytes that are read at a time.
 const PIECE: usize = 4096;
@@ -41,7 +38,7 @@ enum FillFault {
     /// A read failed.
     Read,
     /// Memory was wanting.
-    NoMemory,
+    Full,
 }
 
 /// Why there is no request.
@@ -65,7 +62,7 @@ fn fault_of(fault: FillFault) -> HttpFault
 {
     match fault {
         FillFault::Read => HttpFault::ReadFault,
-        FillFault::NoMemory => HttpFault::Memory,
+        FillFault::Full => HttpFault::Memory,
     }
 }
 
@@ -120,7 +117,7 @@ fn fill<S: Source>(kept: &mut Vec<u8>, source: &mut S, most: usize) -> Result<us
 {
     let most = most.min(PIECE);
     if kept.reserve(most).is_err() {
-        return Err(FillFault::NoMemory);
+        return Err(FillFault::Full);
     }
     let mut piece = [0u8; PIECE];
     match source.take(&mut piece[..most]) {
@@ -149,8 +146,8 @@ impl Model for Reader {
 
 impl Reader {
     ghost use Rattle.op_model.specs.Requests.{head_limit, body_limit};
-    ghost use Rattle.op_http.specs.Head.{HoldsHead};
-    ghost use Rattle.op_http.specs.Reader.{Fills, Reads, CutsOff};
+    ghost use Rattle.op_http.specs.Head.{FramesNot};
+    ghost use Rattle.op_http.specs.Reader.{Fills, Reads, ReadsOne, IsFramed, CutsOff, refusal_at};
 
     /// A reader that has read nothing.
     pub fn new(alloc: Global) -> Reader
@@ -267,5 +264,92 @@ impl Reader {
         drop_front(&mut self.kept, end);
         self.place += end as u64;
         Ok(RawRequest::new(head.method, head.target, head.fields, body))
+    }
+
+    /// The answer where the window tells no body.
+    fn refusal(&self, fault: FrameFault) -> HttpFault
+        ensures value { result ≡ refusal_at self.now.at fault }
+        ensures other { result ≢ HttpFault.ReadFault }
+    {
+        match fault {
+            FrameFault::NoHead | FrameFault::BadLength => self.bad_http(),
+            FrameFault::Chunked => self.length_required(),
+            FrameFault::LongBody => self.too_large(),
+            FrameFault::NoMemory => HttpFault::Memory,
+        }
+    }
+
+    /// Reads the body of a head that is held, and takes the request.
+    fn body<S: Source>(
+        &mut self,
+        alloc: Global,
+        source: &mut S,
+        frame: Frame,
+    ) -> Result<RawRequest, HttpFault>
+        requires framed { IsFramed self.old.bytes frame.head frame.size }
+        requires place { self.old.at < 2 ^ 60 }
+        ensures reads { ReadsOne self.old self.new (S.left source.old) (S.left source.new) result }
+        ensures kept { length self.new.bytes ≤ max (length self.old.bytes) (head_limit + body_limit) }
+        ensures cause { IsErrOf result HttpFault.ReadFault → Rose (S.faults source.old) (S.faults source.new) }
+        ensures faults { ¬ IsErrOf result HttpFault.ReadFault → S.faults source.new ≡ S.faults source.old }
+    {
+        let end = frame.head.len + frame.size;
+        match self.hold(source, end) {
+            Ok(true) => match self.cut(alloc, frame.head, end) {
+                Ok(request) => Ok(request),
+                Err(_) => Err(HttpFault::Memory),
+            },
+            Ok(false) => Err(self.bad_http()),
+            Err(fault) => Err(fault_of(fault)),
+        }
+    }
+
+    /// The frame of the head in the window, which ends behind so many bytes.
+    fn frame(&self, alloc: Global, end: usize) -> Result<Frame, FrameFault>
+        requires mark { IsFirstMark self.now.bytes end }
+        requires limit { end ≤ head_limit }
+        ensures frame { IfOk result (λ frame. IsFramed self.now.bytes frame.head frame.size) }
+        ensures fault { IfErr result (FramesNot (take end self.now.bytes)) }
+    {
+        read_frame(alloc, &self.kept[..end])
+    }
+
+    /// Reads the next request of a source. `None` exactly where the stream has ended. It reads on only where it holds
+    /// no whole request, and holds at most one head and one body more than it held.
+    ///
+    /// # Errors
+    ///
+    /// `BadHttp`, `LengthRequired` and `TooLarge` exactly where the stream goes on with such a beginning. `ReadFault`
+    /// only where the source failed, and what is held begins with no whole request. `Memory` where memory was wanting.
+    /// After each of them what is held and what the source has left are together as before.
+    pub fn next<S: Source>(
+        &mut self,
+        alloc: Global,
+        source: &mut S,
+    ) -> Result<Option<RawRequest>, HttpFault>
+        requires { self.old.at < 2 ^ 60 }
+        ensures reads { Reads self.old self.new (S.left source.old) (S.left source.new) result }
+        ensures kept { length self.new.bytes ≤ max (length self.old.bytes) (head_limit + body_limit) }
+        ensures cause { IsErrOf result HttpFault.ReadFault → Rose (S.faults source.old) (S.faults source.new) }
+        ensures faults { ¬ IsErrOf result HttpFault.ReadFault → S.faults source.new ≡ S.faults source.old }
+    {
+        let end = match self.find_edge(source) {
+            Ok(Edge::Mark(end)) => end,
+            Ok(Edge::Limit) => return Err(self.too_large()),
+            Ok(Edge::End) => {
+                if self.is_blank() {
+                    return Ok(None);
+                }
+                return Err(self.bad_http());
+            }
+            Err(fault) => return Err(fault_of(fault)),
+        };
+        match self.frame(alloc, end) {
+            Ok(frame) => match self.body(alloc, source, frame) {
+                Ok(request) => Ok(Some(request)),
+                Err(fault) => Err(fault),
+            },
+            Err(fault) => Err(self.refusal(fault)),
+        }
     }
 }
