@@ -87,6 +87,7 @@ takes_after old mid new left left' left'' raw same takes =
       request = takes.request;
       taken = consumes_trans (stream old left) (stream mid left') (stream new left'') [] takes.text same.0 takes.taken;
       at = takes.at ∙ ap (λ (k : ℕ). k + length takes.text) same.1;
+      limit = takes.limit;
     }
 
 pub fault_after : (old mid new : Held) (left left' left'' : Option (List ℕ)) (fault : HttpFault) → Fills old mid left left' → Refuses mid new left' left'' fault → Refuses old new left left'' fault
@@ -181,6 +182,7 @@ body_taken old mid new left left' p size raw fills framed enough cut =
       request = whole_request text p.len p size raw mark now.limit frames cut.method cut.target cut.fields (body ∙ sym (drop-take p.len size mid.bytes)) long;
       taken = consumes_trans (stream old left) (stream mid left') (stream new left') [] text (stays_filled old mid left left' fills).0 (consumes_cut mid.bytes text new.bytes left' split);
       at = cut.at ∙ omega (arith, fills.at, length-take-le (p.len + size) mid.bytes enough);
+      limit = omega (arith, now.limit, frames.limit, length-take-le (p.len + size) mid.bytes enough);
     }
 
 -- the answer for the window

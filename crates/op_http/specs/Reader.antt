@@ -3,7 +3,7 @@ use Rattle.std.specs.Prelude.{◌≡◌, ℕ, ◌+◌, ◌-◌, ◌<◌, ◌≤�
 use Rattle.std.specs.Io.KnownBytes.{Consumes, IsAtEnd, prepend_known}
 use Rattle.std.specs.declared.option.Option.{Option}
 use Rattle.std.specs.declared.result.Result.{Result}
-use Rattle.op_model.specs.Requests.{head_limit, Raw, IsWholeRequest, IsEnded, IsBadHttp, IsLengthRequired, IsTooLarge, BeginsWithNoRequest}
+use Rattle.op_model.specs.Requests.{head_limit, body_limit, Raw, IsWholeRequest, IsEnded, IsBadHttp, IsLengthRequired, IsTooLarge, BeginsWithNoRequest}
 use Rattle.op_http.specs.Head.{HeadParts, Frames}
 use Rattle.op_http.specs.Held.{Held}
 use Rattle.op_http.specs.Marks.{HasNoMark, IsFirstMark}
@@ -54,6 +54,7 @@ pub record Takes (old new : Held) (left left' : Option (List ℕ)) (raw : Raw) :
   pub request : IsWholeRequest text raw
   pub taken : Consumes (stream old left) (stream new left') text
   pub at : new.at ≡ old.at + length text
+  pub limit : length text ≤ head_limit + body_limit
 
 -- the stream has ended, and what is held is all of it
 abbrev pub HasEnded : (old new : Held) (left left' : Option (List ℕ)) → Type 0

@@ -1,7 +1,7 @@
 //! HTTP: the requests of a stream, the route of each, and whole texts to a sink.
 //!
 //! `Reader` reads a stream by the definitions of op_model: which bytes are a request, where the next one begins, and
-//! which beginnings are refused. `route` finds what a request asks for.
+//! which beginnings are refused.
 #![tactic(auto)]
 
 mod frame;
@@ -10,6 +10,8 @@ mod length;
 mod marks;
 mod reader;
 mod request;
+#[cfg(test)]
+mod tests;
 mod write;
 
 pub use reader::{HttpFault, Reader};
