@@ -1,6 +1,6 @@
 -- Routes: which methods and paths are served, and what each asks for (Open Payments, "Resource server API" and
 -- "Authorization server API"; the paths below `/admin` are this project's own). Paths are looked up as `matchit` does.
-use Rattle.std.specs.Prelude.{ℕ, ◌+◌, ◌==◌, List, [], ◌∷◌, ◌++◌, codes, Some, None, Ok, Err, if◌then◌else◌, option_and_then, unwrap_or}
+use Rattle.std.specs.Prelude.{ℕ, Bool, ◌+◌, ◌==◌, List, [], ◌∷◌, ◌++◌, codes, Some, None, Ok, Err, if◌then◌else◌, option_and_then, unwrap_or}
 use Rattle.std.specs.List.{before_first, slice_split, slice_get}
 use Rattle.std.specs.Str.{bytes_eq, is_utf8}
 use Rattle.std.specs.declared.option.Option.{Option}
@@ -12,6 +12,7 @@ use Rattle.matchit.specs.Order.{placed}
 use Rattle.matchit.specs.Seek.{first}
 use Rattle.matchit.specs.declared.error.InsertError.{InsertError}
 use Rattle.op_names.specs.Forms.{is_slash, is_path}
+use Rattle.op_model.specs.declared.operation.Methods.{Methods}
 use Rattle.op_model.specs.declared.operation.Operation.{Operation}
 use Rattle.op_model.specs.declared.operation.Operation.TheVariants.{SetOrigin, AddAsset, ShowAsset, AddAddress, ShowAddress, Deposit, Withdraw, SetRate, AcceptInteraction, RejectInteraction, ShowPayment, CancelPayment, ReadAddress, AskGrant, ContinueGrant, CancelGrant, RotateToken, RevokeToken, CreateIncoming, ListIncoming, ReadIncoming, CompleteIncoming, CreateQuote, ReadQuote, CreateOutgoing, ListOutgoing, ReadOutgoing, ReadMonetization}
 use Rattle.op_model.specs.declared.reply.Refusal.{Refusal}
@@ -19,12 +20,7 @@ use Rattle.op_model.specs.declared.reply.Refusal.TheVariants.{NotFound, MethodNo
 
 -- ---- the table
 
--- what the methods of a path ask for, where it has them
-pub record Methods : Type 0 where
-  pub delete : Option Operation
-  pub get : Option Operation
-  pub post : Option Operation
-
+-- a path, and what its methods ask for
 pub record Place : Type 0 where
   pub path : List ℕ
   pub methods : Methods
@@ -101,8 +97,11 @@ methods_of path = if is_utf8 path then methods_at path (place_of path) else None
 -- ---- what a request asks for
 
 -- the path is the target up to its first `?` (RFC 3986, section 3.3)
+abbrev pub is_question : ℕ → Bool
+is_question b = b == 63
+
 abbrev pub path_of : List ℕ → List ℕ
-path_of target = before_first (λ b. b == 63) target
+path_of target = before_first is_question target
 
 -- a segment of a path; that of number 0 stands behind the first slash
 abbrev pub segment : ℕ → List ℕ → List ℕ

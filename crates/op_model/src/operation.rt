@@ -32,3 +32,11 @@ pub enum Operation {
     ReadOutgoing,
     ReadMonetization,
 }
+
+/// What the methods of a path ask for, where it has them.
+#[derive(Clone, Copy)]
+pub struct Methods {
+    pub delete: Option<Operation>,
+    pub get: Option<Operation>,
+    pub post: Option<Operation>,
+}

@@ -1,0 +1,9 @@
+use Rattle.std.proofs.Common.{◌∙◌}
+use Rattle.op_model.specs.Routes.{place_of}
+use Rattle.op_http.proofs.Routers.{row_is_place, methods_found, methods_beside}
+use Rattle.op_http.proofs.places.methods_of.Goals as goal
+
+pub returns-in-Some : goal.returns-in-Some
+returns-in-Some c =
+    methods_found c.args.path.now (place_of c.args.path.now) c.in-Some.methods
+    (c.in-Some.ensures ∙ row_is_place c.args.table.now c.in-Ok.router c.args.path.now c.in-Ok.ensures c.requires.places)
