@@ -1,15 +1,18 @@
 -- The router of the table, and the methods that it finds.
-use Rattle.std.proofs.Common.{◌≡◌, ℕ, ◌+◌, ◌<◌, ◌≤◌, length, add-one, List, [], ◌∷◌, Result, Ok, Err, OnOk, Option, Some, None, map, drop, get_or, option_and_then, refl, ap, sym, ◌∙◌, arith}
+use Rattle.std.proofs.Common.{◌≡◌, ℕ, suc, true, false, inl, inr, ◌+◌, ◌<◌, ◌≤◌, length, add-one, List, [], ◌∷◌, Result, Ok, Err, OnOk, Option, Some, None, map, drop, get_or, option_and_then, refl, ap, sym, ◌∙◌, arith}
 use Rattle.std.specs.Option.{option_map}
 use Rattle.std.specs.List.{slice_get}
 use Rattle.std.proofs.Math.Seq.{drop-cons}
 use Rattle.std.proofs.lemmas.List.{get_or-map, length-map, at_drop_all}
 use Rattle.std.proofs.lemmas.Option.{slice_get-map}
+use Rattle.std.specs.Str.{IsUtf8, is_utf8}
+use Rattle.std.proofs.lemmas.Bool.{cases_Bool}
+use Rattle.std.proofs.lemmas.Str.{IsUtf8-from_is_utf8, is_utf8-from_IsUtf8}
 use Rattle.matchit.specs.Route.{Scan, parse_route}
 use Rattle.matchit.specs.Router.{InsertsRead, map_key}
 use Rattle.matchit.specs.Seek.{first}
 use Rattle.matchit.specs.declared.error.InsertError.{InsertError}
-use Rattle.op_model.specs.Routes.{Table, Place, with_scan, with_route, rows_from, places, table, place_of, methods_at}
+use Rattle.op_model.specs.Routes.{Table, Place, with_scan, with_route, rows_from, places, table, place_of, methods_at, methods_of}
 use Rattle.op_model.specs.declared.operation.Methods.{Methods}
 use Rattle.op_http.specs.Places.{place_of_row}
 use Rattle.op_http.specs.declared.places.Row.{Row}
@@ -27,14 +30,14 @@ unfolding with_route
 inserts_route text n old new r = inserts_scan (parse_route text) n old new r
 
 -- one more row
-pub rows_step : (rows : List Row) (i number : ℕ) (row : Row) (old new all : Table) → number ≡ i → i < length rows → row ≡ get_or rows i row
-    → new ≡ with_route old row.path.now number → rows_from number old (drop i (map place_of_row rows)) ≡ all
+pub rows_step : (rows : List Row) (i number : ℕ) (d : Row) (old new all : Table) → number ≡ i → i < length rows
+    → new ≡ with_route old (get_or rows i d).path.now number → rows_from number old (drop i (map place_of_row rows)) ≡ all
     → rows_from (number + 1) new (drop (i + 1) (map place_of_row rows)) ≡ all
-rows_step rows i number row old new all count within is added so_far =
+rows_step rows i number d old new all count within added so_far =
     let inside : i < length (map place_of_row rows) = omega (arith, within, length-map rows place_of_row) in
-    let here : get_or (map place_of_row rows) i (place_of_row row) ≡ place_of_row row = get_or-map place_of_row rows i row (place_of_row row) within ∙ ap place_of_row (sym is) in
-    let split : drop i (map place_of_row rows) ≡ place_of_row row ∷ drop (i + 1) (map place_of_row rows) =
-    rw (add-one) (drop-cons (map place_of_row rows) i (place_of_row row) inside ∙ ap (λ (x : Place). x ∷ drop (suc i) (map place_of_row rows)) here) in
+    let here : get_or (map place_of_row rows) i (place_of_row d) ≡ place_of_row (get_or rows i d) = get_or-map place_of_row rows i d (place_of_row d) within in
+    let split : drop i (map place_of_row rows) ≡ place_of_row (get_or rows i d) ∷ drop (i + 1) (map place_of_row rows) =
+    rw (add-one) (drop-cons (map place_of_row rows) i (place_of_row d) inside ∙ ap (λ (x : Place). x ∷ drop (suc i) (map place_of_row rows)) here) in
     ap (λ (t : Table). rows_from (number + 1) t (drop (i + 1) (map place_of_row rows))) added ∙ (sym (ap (rows_from number old) split) ∙ so_far)
 
 -- no more rows
@@ -68,3 +71,14 @@ methods_found path None methods found = absurd (cc)
 pub methods_beside : (path : List ℕ) (place : Option Place) → None ≡ option_map (λ place. place.methods) place → methods_at path None ≡ methods_at path place
 methods_beside path (Some place) none = absurd (cc)
 methods_beside path None none = refl
+
+-- a path that is no text has no methods
+pub unreadable : (path : List ℕ) → ¬ (IsUtf8 path) → methods_of path ≡ None
+unreadable path no =
+    elim (cases_Bool (is_utf8 path)) [
+      | inl yes ↦ absurd (no (IsUtf8-from_is_utf8 path yes))
+      | inr none ↦ rw none refl
+    ]
+
+pub readable : (path : List ℕ) → IsUtf8 path → methods_of path ≡ methods_at path (place_of path)
+readable path yes = rw (is_utf8-from_IsUtf8 path yes) refl

@@ -1,6 +1,7 @@
 //! What a request asks for: an operation, with the parameters that its path has.
 ghost use Rattle.std.specs.Prelude.{◌≡◌, ◌≤◌, length, IfOk};
-ghost use Rattle.std.specs.List.{position_or_len};
+ghost use Rattle.std.specs.List.{position_or_len, after_first};
+ghost use Rattle.op_names.specs.Forms.{is_slash};
 ghost use Rattle.op_model.specs.Routes.{is_question, segment, path_of, operation_of};
 ghost use Rattle.op_http.specs.Routes.{route_with, Routed};
 
@@ -81,15 +82,43 @@ pub enum RouteFault {
     Memory,
 }
 
+/// How many bytes stand before the first slash.
+fn slash_at(text: &[u8]) -> usize
+    ensures value { result ≡ position_or_len is_slash text.now }
+    ensures within { result ≤ length text.now }
+{
+    for (i, b) in text.iter().enumerate() {
+        if *b == b'/' {
+            return i;
+        }
+    }
+    text.len()
+}
+
+/// What stands behind the first slash.
+fn behind_slash(text: &[u8]) -> &[u8]
+    ensures { result.now ≡ after_first is_slash text.now }
+{
+    let slash = slash_at(text);
+    if slash < text.len() {
+        &text[slash + 1..]
+    } else {
+        b""
+    }
+}
+
 /// A segment of a path. That of number 0 stands behind the first slash.
 fn segment_of(path: &[u8], number: usize) -> &[u8]
     requires { number ≤ 3 }
     ensures { result.now ≡ segment number path.now }
 {
-    match path.split(|b| *b == b'/').nth(number + 1) {
-        Some(part) => part,
-        None => b"",
+    let mut rest = behind_slash(path);
+    let mut passed = 0;
+    while passed < number {
+        rest = behind_slash(rest);
+        passed += 1;
     }
+    &rest[..slash_at(rest)]
 }
 
 fn segment(alloc: Global, path: &[u8], number: usize) -> Result<Text, AllocError>

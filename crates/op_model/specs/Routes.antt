@@ -1,7 +1,7 @@
 -- Routes: which methods and paths are served, and what each asks for (Open Payments, "Resource server API" and
 -- "Authorization server API"; the paths below `/admin` are this project's own). Paths are looked up as `matchit` does.
-use Rattle.std.specs.Prelude.{ℕ, Bool, ◌+◌, ◌==◌, List, [], ◌∷◌, ◌++◌, codes, Some, None, Ok, Err, if◌then◌else◌, option_and_then, unwrap_or}
-use Rattle.std.specs.List.{before_first, slice_split, slice_get}
+use Rattle.std.specs.Prelude.{ℕ, zero, suc, Bool, ◌+◌, ◌==◌, List, [], ◌∷◌, ◌++◌, codes, Some, None, Ok, Err, if◌then◌else◌, option_and_then}
+use Rattle.std.specs.List.{before_first, after_first, slice_get}
 use Rattle.std.specs.Str.{bytes_eq, is_utf8}
 use Rattle.std.specs.declared.option.Option.{Option}
 use Rattle.std.specs.declared.result.Result.{Result}
@@ -104,8 +104,12 @@ abbrev pub path_of : List ℕ → List ℕ
 path_of target = before_first is_question target
 
 -- a segment of a path; that of number 0 stands behind the first slash
+abbrev pub segment_from : ℕ → List ℕ → List ℕ
+segment_from zero rest = before_first is_slash rest
+segment_from (suc number) rest = segment_from number (after_first is_slash rest)
+
 abbrev pub segment : ℕ → List ℕ → List ℕ
-segment number path = unwrap_or (slice_get (slice_split is_slash path) (number + 1)) []
+segment number path = segment_from number (after_first is_slash path)
 
 abbrev pub operation_at : Methods → List ℕ → Option Operation
 operation_at methods method =

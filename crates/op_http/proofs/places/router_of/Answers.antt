@@ -6,8 +6,8 @@ pub loop-row-preserved : goal.loop-row-preserved
 loop-row-preserved c =
     record {
       count = omega arith;
-      rows = rows_step c.args.table.now c.loop-row.row-index c.loop-row.number c.row-item.result c.loop-row.router _ _ c.loop-row.invariant.count
-      c.loop-row-test.true c.row-item.is c.in_ok-insert.ensures c.loop-row.invariant.rows;
+      rows = rows_step c.args.table.now c.loop-row.row-index c.loop-row.number _ c.loop-row.router _ _ c.loop-row.invariant.count
+      c.loop-row-test.true c.in_ok-insert.ensures c.loop-row.invariant.rows;
     }
 
 pub returns : goal.returns

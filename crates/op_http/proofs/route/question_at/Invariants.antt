@@ -3,4 +3,4 @@ use Rattle.op_model.specs.Routes.{is_question}
 use Rattle.op_http.proofs.route.question_at.Given as goal
 
 abbrev pub invariant-loop-i : goal.invariant-loop-i
-invariant-loop-i l = (k : ℕ) → k < l.i → is_question (get_or l.text k 0) ≡ false
+invariant-loop-i l = (k : ℕ) → k < l.i → is_question (get_or l.target k 0) ≡ false
