@@ -1,7 +1,8 @@
 -- The router of the table, and the methods that it finds.
-use Rattle.std.proofs.Common.{◌≡◌, ℕ, suc, true, false, inl, inr, ◌+◌, ◌<◌, ◌≤◌, length, add-one, List, [], ◌∷◌, Result, Ok, Err, OnOk, Option, Some, None, map, drop, get_or, option_and_then, refl, ap, sym, ◌∙◌, arith}
+use Rattle.std.proofs.Common.{◌≡◌, ℕ, zero, suc, ◌-◌, true, false, inl, inr, ◌+◌, ◌<◌, ◌≤◌, length, add-one, List, [], ◌∷◌, Result, Ok, Err, OnOk, Option, Some, None, map, drop, get_or, option_and_then, refl, ap, sym, ◌∙◌, arith}
 use Rattle.std.specs.Option.{option_map}
-use Rattle.std.specs.List.{slice_get}
+use Rattle.std.specs.List.{slice_get, after_first, before_first}
+use Rattle.op_names.specs.Forms.{is_slash}
 use Rattle.std.proofs.Math.Seq.{drop-cons}
 use Rattle.std.proofs.lemmas.List.{get_or-map, length-map, at_drop_all}
 use Rattle.std.proofs.lemmas.Option.{slice_get-map}
@@ -12,7 +13,7 @@ use Rattle.matchit.specs.Route.{Scan, parse_route}
 use Rattle.matchit.specs.Router.{InsertsRead, map_key}
 use Rattle.matchit.specs.Seek.{first}
 use Rattle.matchit.specs.declared.error.InsertError.{InsertError}
-use Rattle.op_model.specs.Routes.{Table, Place, with_scan, with_route, rows_from, places, table, place_of, methods_at, methods_of}
+use Rattle.op_model.specs.Routes.{Table, Place, with_scan, with_route, rows_from, places, table, place_of, methods_at, methods_of, segment_from}
 use Rattle.op_model.specs.declared.operation.Methods.{Methods}
 use Rattle.op_http.specs.Places.{place_of_row}
 use Rattle.op_http.specs.declared.places.Row.{Row}
@@ -74,11 +75,24 @@ methods_beside path None none = refl
 
 -- a path that is no text has no methods
 pub unreadable : (path : List ℕ) → ¬ (IsUtf8 path) → methods_of path ≡ None
-unreadable path no =
+unreadable path broken =
     elim (cases_Bool (is_utf8 path)) [
-      | inl yes ↦ absurd (no (IsUtf8-from_is_utf8 path yes))
+      | inl text ↦ absurd (broken (IsUtf8-from_is_utf8 path text))
       | inr none ↦ rw none refl
     ]
 
 pub readable : (path : List ℕ) → IsUtf8 path → methods_of path ≡ methods_at path (place_of path)
-readable path yes = rw (is_utf8-from_IsUtf8 path yes) refl
+readable path text = rw (is_utf8-from_IsUtf8 path text) refl
+
+-- one more slash is passed
+pub segment_step : (number passed : ℕ) (rest all : List ℕ) → passed < number → segment_from (number - passed) rest ≡ all
+    → segment_from (number - (passed + 1)) (after_first is_slash rest) ≡ all
+segment_step number passed rest all more so_far =
+    let e : number - passed ≡ suc (number - (passed + 1)) = omega arith in
+    sym (ap (λ (k : ℕ). segment_from k rest) e) ∙ so_far
+
+-- none is left to pass
+pub segment_end : (number passed : ℕ) (rest all : List ℕ) → number ≤ passed → segment_from (number - passed) rest ≡ all → before_first is_slash rest ≡ all
+segment_end number passed rest all past so_far =
+    let e : number - passed ≡ zero = omega arith in
+    sym (ap (λ (k : ℕ). segment_from k rest) e) ∙ so_far
