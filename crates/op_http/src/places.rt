@@ -25,95 +25,187 @@ pub struct Row {
 const PLACES: [Row; 23] = [
     Row {
         path: "/admin/origin",
-        methods: Methods { delete: None, get: None, post: Some(Operation::SetOrigin) },
+        methods: Methods {
+            delete: None,
+            get: None,
+            post: Some(Operation::SetOrigin),
+        },
     },
     Row {
         path: "/admin/assets",
-        methods: Methods { delete: None, get: None, post: Some(Operation::AddAsset) },
+        methods: Methods {
+            delete: None,
+            get: None,
+            post: Some(Operation::AddAsset),
+        },
     },
     Row {
         path: "/admin/assets/{code}/{scale}",
-        methods: Methods { delete: None, get: Some(Operation::ShowAsset), post: None },
+        methods: Methods {
+            delete: None,
+            get: Some(Operation::ShowAsset),
+            post: None,
+        },
     },
     Row {
         path: "/admin/wallet-addresses",
-        methods: Methods { delete: None, get: None, post: Some(Operation::AddAddress) },
+        methods: Methods {
+            delete: None,
+            get: None,
+            post: Some(Operation::AddAddress),
+        },
     },
     Row {
         path: "/admin/wallet-addresses/{id}",
-        methods: Methods { delete: None, get: Some(Operation::ShowAddress), post: None },
+        methods: Methods {
+            delete: None,
+            get: Some(Operation::ShowAddress),
+            post: None,
+        },
     },
     Row {
         path: "/admin/deposits",
-        methods: Methods { delete: None, get: None, post: Some(Operation::Deposit) },
+        methods: Methods {
+            delete: None,
+            get: None,
+            post: Some(Operation::Deposit),
+        },
     },
     Row {
         path: "/admin/withdrawals",
-        methods: Methods { delete: None, get: None, post: Some(Operation::Withdraw) },
+        methods: Methods {
+            delete: None,
+            get: None,
+            post: Some(Operation::Withdraw),
+        },
     },
     Row {
         path: "/admin/rates",
-        methods: Methods { delete: None, get: None, post: Some(Operation::SetRate) },
+        methods: Methods {
+            delete: None,
+            get: None,
+            post: Some(Operation::SetRate),
+        },
     },
     Row {
         path: "/admin/interactions/{id}/accept",
-        methods: Methods { delete: None, get: None, post: Some(Operation::AcceptInteraction) },
+        methods: Methods {
+            delete: None,
+            get: None,
+            post: Some(Operation::AcceptInteraction),
+        },
     },
     Row {
         path: "/admin/interactions/{id}/reject",
-        methods: Methods { delete: None, get: None, post: Some(Operation::RejectInteraction) },
+        methods: Methods {
+            delete: None,
+            get: None,
+            post: Some(Operation::RejectInteraction),
+        },
     },
     Row {
         path: "/admin/outgoing-payments/{id}",
-        methods: Methods { delete: None, get: Some(Operation::ShowPayment), post: None },
+        methods: Methods {
+            delete: None,
+            get: Some(Operation::ShowPayment),
+            post: None,
+        },
     },
     Row {
         path: "/admin/outgoing-payments/{id}/cancel",
-        methods: Methods { delete: None, get: None, post: Some(Operation::CancelPayment) },
+        methods: Methods {
+            delete: None,
+            get: None,
+            post: Some(Operation::CancelPayment),
+        },
     },
     Row {
         path: "/grant",
-        methods: Methods { delete: None, get: None, post: Some(Operation::AskGrant) },
+        methods: Methods {
+            delete: None,
+            get: None,
+            post: Some(Operation::AskGrant),
+        },
     },
     Row {
         path: "/continue/{id}",
-        methods: Methods { delete: Some(Operation::CancelGrant), get: None, post: Some(Operation::ContinueGrant) },
+        methods: Methods {
+            delete: Some(Operation::CancelGrant),
+            get: None,
+            post: Some(Operation::ContinueGrant),
+        },
     },
     Row {
         path: "/token/{id}",
-        methods: Methods { delete: Some(Operation::RevokeToken), get: None, post: Some(Operation::RotateToken) },
+        methods: Methods {
+            delete: Some(Operation::RevokeToken),
+            get: None,
+            post: Some(Operation::RotateToken),
+        },
     },
     Row {
         path: "/incoming-payments",
-        methods: Methods { delete: None, get: Some(Operation::ListIncoming), post: Some(Operation::CreateIncoming) },
+        methods: Methods {
+            delete: None,
+            get: Some(Operation::ListIncoming),
+            post: Some(Operation::CreateIncoming),
+        },
     },
     Row {
         path: "/incoming-payments/{id}",
-        methods: Methods { delete: None, get: Some(Operation::ReadIncoming), post: None },
+        methods: Methods {
+            delete: None,
+            get: Some(Operation::ReadIncoming),
+            post: None,
+        },
     },
     Row {
         path: "/incoming-payments/{id}/complete",
-        methods: Methods { delete: None, get: None, post: Some(Operation::CompleteIncoming) },
+        methods: Methods {
+            delete: None,
+            get: None,
+            post: Some(Operation::CompleteIncoming),
+        },
     },
     Row {
         path: "/quotes",
-        methods: Methods { delete: None, get: None, post: Some(Operation::CreateQuote) },
+        methods: Methods {
+            delete: None,
+            get: None,
+            post: Some(Operation::CreateQuote),
+        },
     },
     Row {
         path: "/quotes/{id}",
-        methods: Methods { delete: None, get: Some(Operation::ReadQuote), post: None },
+        methods: Methods {
+            delete: None,
+            get: Some(Operation::ReadQuote),
+            post: None,
+        },
     },
     Row {
         path: "/outgoing-payments",
-        methods: Methods { delete: None, get: Some(Operation::ListOutgoing), post: Some(Operation::CreateOutgoing) },
+        methods: Methods {
+            delete: None,
+            get: Some(Operation::ListOutgoing),
+            post: Some(Operation::CreateOutgoing),
+        },
     },
     Row {
         path: "/outgoing-payments/{id}",
-        methods: Methods { delete: None, get: Some(Operation::ReadOutgoing), post: None },
+        methods: Methods {
+            delete: None,
+            get: Some(Operation::ReadOutgoing),
+            post: None,
+        },
     },
     Row {
         path: "/monetization",
-        methods: Methods { delete: None, get: Some(Operation::ReadMonetization), post: None },
+        methods: Methods {
+            delete: None,
+            get: Some(Operation::ReadMonetization),
+            post: None,
+        },
     },
 ];
 
@@ -276,11 +368,7 @@ fn operation_by(
 }
 
 /// The operation that a method and a path ask for.
-pub fn find_operation(
-    alloc: Global,
-    method: &[u8],
-    path: &[u8],
-) -> Result<Operation, RouteFault>
+pub fn find_operation(alloc: Global, method: &[u8], path: &[u8]) -> Result<Operation, RouteFault>
     ensures { IsAsked (asked_at method.now (methods_of path.now)) result }
 {
     operation_by(alloc, &PLACES, method, path)

@@ -7,7 +7,7 @@ loop-row-preserved c =
     record {
       count = omega arith;
       rows = rows_step c.args.table.now c.loop-row.row-index c.loop-row.number _ c.loop-row.router _ _ c.loop-row.invariant.count
-      c.loop-row-test.true c.in_ok-insert.ensures c.loop-row.invariant.rows;
+          c.loop-row-test.true c.in_ok-insert.ensures c.loop-row.invariant.rows;
     }
 
 pub returns : goal.returns

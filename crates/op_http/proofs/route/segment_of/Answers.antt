@@ -7,5 +7,5 @@ loop-passed-preserved c =
     record {
       within = omega arith;
       same = rw c.behind_slash-rest-in-loop-passed.ensures
-      (segment_step c.args.number c.loop-passed.passed _ _ c.loop-passed-test.true c.loop-passed.invariant.same);
+          (segment_step c.args.number c.loop-passed.passed _ _ c.loop-passed-test.true c.loop-passed.invariant.same);
     }
