@@ -1,0 +1,8 @@
+pub mod Head
+pub mod Held
+pub mod Lengths
+pub mod Marks
+pub mod Places
+pub mod Reader
+pub mod RouteTable
+pub mod Routes

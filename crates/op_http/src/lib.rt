@@ -1,0 +1,24 @@
+//! HTTP: the requests of a stream, the route of each, and whole texts to a sink.
+//!
+//! `Reader` reads a stream by the definitions of op_model: which bytes are a request, where the next one begins, and
+//! which beginnings are refused. `find_route` finds what a request asks for.
+#![tactic(auto)]
+
+mod frame;
+mod head;
+mod length;
+mod marks;
+mod operation;
+mod places;
+mod reader;
+mod request;
+mod route;
+#[cfg(test)]
+mod tests;
+mod write;
+
+pub use operation::{Methods, Operation};
+pub use reader::{HttpFault, Reader};
+pub use request::{Field, RawRequest};
+pub use route::{Route, RouteFault, find_route};
+pub use write::write_all;
