@@ -1,5 +1,5 @@
 // A disk on a file of the system. It tells no bytes: nothing is claimed of what a real file holds.
-ghost use Rattle.std.specs.Prelude.{◌≡◌, false, None, []};
+ghost use Rattle.std.specs.Prelude.{false, []};
 ghost use Rattle.std.proofs.lemmas.Bool.{false≢true};
 ghost use Rattle.op_causes.specs.Causes.{HasCause};
 ghost use Rattle.op_disk.specs.Calls.{Ticks};
@@ -29,10 +29,7 @@ pub struct FileDisk<R: Files<File = File> + Drop> {
 
 impl<R: Files<File = File> + Drop> FileDisk<R> {
     /// A disk on the file at this path, which is not opened yet.
-    pub fn new(files: R, path: String) -> FileDisk<R>
-        ensures place { (result.files ≡ files) × (result.path ≡ path) }
-        ensures fresh { (result.file ≡ None) × (result.calls ≡ 0) × (result.faults ≡ 0) }
-    {
+    pub fn new(files: R, path: String) -> FileDisk<R> {
         FileDisk {
             files,
             path,

@@ -14,6 +14,8 @@ mod reader;
 mod request;
 mod route;
 #[cfg(test)]
+mod route_tests;
+#[cfg(test)]
 mod tests;
 mod write;
 

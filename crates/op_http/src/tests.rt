@@ -40,12 +40,23 @@ fn first_answer(
     })
 }
 
-/// The same answer comes in one piece, in pieces of 7 bytes and byte by byte.
-fn expect(rt: &impl Abort, alloc: Global, text: &[u8], answer: First) -> Result<(), Fail> {
-    for piece in [100_000, 7, 1] {
-        assert_eq!(rt; first_answer(alloc, text, piece, &[])?, answer);
+/// The same answer comes whatever the sizes of the pieces are.
+fn expect_in(
+    rt: &impl Abort,
+    alloc: Global,
+    text: &[u8],
+    pieces: &[usize],
+    answer: First,
+) -> Result<(), Fail> {
+    for piece in pieces {
+        assert_eq!(rt; first_answer(alloc, text, *piece, &[])?, answer);
     }
     Ok(())
+}
+
+/// The same answer comes in one piece, in pieces of 7 bytes and byte by byte.
+fn expect(rt: &impl Abort, alloc: Global, text: &[u8], answer: First) -> Result<(), Fail> {
+    expect_in(rt, alloc, text, &[100_000, 7, 1], answer)
 }
 
 /// The text, then so many bytes `a`, and then the end.
@@ -107,14 +118,26 @@ fn heads(rt: HostRuntime) -> Result<(), Fail> {
 fn limits(rt: HostRuntime) -> Result<(), Fail> {
     let line = b"GET / HTTP/1.1\r\nx: ";
     let short = with_filler(rt.alloc(), line, 16_383 - line.len(), b"")?;
-    expect(&rt, rt.alloc(), &short, First::Bad(0))?;
+    expect_in(&rt, rt.alloc(), &short, &[100_000, 500], First::Bad(0))?;
     let long = with_filler(rt.alloc(), line, 16_384 - line.len(), b"")?;
-    expect(&rt, rt.alloc(), &long, First::TooLarge(0))?;
+    expect_in(&rt, rt.alloc(), &long, &[100_000, 500], First::TooLarge(0))?;
     let fits = with_filler(rt.alloc(), line, 16_380 - line.len(), b"\r\n\r\n")?;
-    expect(&rt, rt.alloc(), &fits, First::Request(1, 0, 1))?;
+    expect_in(
+        &rt,
+        rt.alloc(),
+        &fits,
+        &[100_000, 500],
+        First::Request(1, 0, 1),
+    )?;
     let whole = b"POST /grant HTTP/1.1\r\ncontent-length: 65536\r\n\r\n";
     let body = with_filler(rt.alloc(), whole, 65_536, b"")?;
-    expect(&rt, rt.alloc(), &body, First::Request(6, 65_536, 1))?;
+    expect_in(
+        &rt,
+        rt.alloc(),
+        &body,
+        &[100_000, 500],
+        First::Request(6, 65_536, 1),
+    )?;
     let over = b"POST /grant HTTP/1.1\r\ncontent-length: 65537\r\n\r\n";
     expect(&rt, rt.alloc(), over, First::TooLarge(0))?;
     Ok(())
