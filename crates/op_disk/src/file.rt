@@ -1,5 +1,5 @@
 // A disk on a file of the system. It tells no bytes: nothing is claimed of what a real file holds.
-ghost use Rattle.std.specs.Prelude.{false, []};
+ghost use Rattle.std.specs.Prelude.{false, [], None, ◌≡◌};
 ghost use Rattle.std.proofs.lemmas.Bool.{false≢true};
 ghost use Rattle.op_causes.specs.Causes.{HasCause};
 ghost use Rattle.op_disk.specs.Calls.{Ticks};
@@ -28,8 +28,11 @@ pub struct FileDisk<R: Files<File = File> + Drop> {
 }
 
 impl<R: Files<File = File> + Drop> FileDisk<R> {
-    /// A disk on the file at this path, which is not opened yet.
-    pub fn new(files: R, path: String) -> FileDisk<R> {
+    /// A disk on the file at this path, which is not opened yet: no call was made, and no fault counted.
+    pub fn new(files: R, path: String) -> FileDisk<R>
+        ensures place { (result.files ≡ files) × (result.path ≡ path) }
+        ensures fresh { (result.file ≡ None) × (result.calls ≡ 0) × (result.faults ≡ 0) }
+    {
         FileDisk {
             files,
             path,
