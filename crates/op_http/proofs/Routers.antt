@@ -13,8 +13,8 @@ use Rattle.matchit.specs.Route.{Scan, parse_route}
 use Rattle.matchit.specs.Router.{InsertsRead, map_key}
 use Rattle.matchit.specs.Seek.{first}
 use Rattle.matchit.specs.declared.error.InsertError.{InsertError}
-use Rattle.op_http.specs.RouteTable.{Table, Place, with_scan, with_route, rows_from, places, table, place_of, methods_at, methods_of, segment_from}
-use Rattle.op_http.specs.declared.operation.Methods.{Methods}
+use Rattle.op_model.specs.RouteTable.{Table, Place, with_scan, with_route, rows_from, places, table, place_of, methods_at, methods_of, segment_from}
+use Rattle.op_model.specs.declared.operation.Methods.{Methods}
 use Rattle.op_http.specs.Places.{place_of_row}
 use Rattle.op_http.specs.declared.places.Row.{Row}
 

@@ -4,5 +4,4 @@ pub mod Lengths
 pub mod Marks
 pub mod Places
 pub mod Reader
-pub mod RouteTable
 pub mod Routes

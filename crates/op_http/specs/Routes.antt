@@ -1,9 +1,9 @@
 -- Routes: an operation with its path parameters.
 use Rattle.std.specs.Prelude.{◌≡◌, ⊤, ℕ, List, Ok, Err}
 use Rattle.std.specs.declared.result.Result.{Result}
-use Rattle.op_http.specs.RouteTable.{segment}
-use Rattle.op_http.specs.declared.operation.Operation.{Operation}
-use Rattle.op_http.specs.declared.operation.Operation.TheVariants as operations
+use Rattle.op_model.specs.RouteTable.{segment}
+use Rattle.op_model.specs.declared.operation.Operation.{Operation}
+use Rattle.op_model.specs.declared.operation.Operation.TheVariants as operations
 use Rattle.op_model.specs.declared.reply.Refusal.{Refusal}
 use Rattle.op_model.specs.declared.reply.Refusal.TheVariants.{NotFound, MethodNotAllowed}
 use Rattle.op_http.specs.declared.route.Route.{Route}

@@ -5,7 +5,7 @@ ghost use Rattle.std.specs.List.{slice_get};
 ghost use Rattle.std.specs.Str.{is_utf8};
 ghost use Rattle.matchit.specs.Router.{map_key};
 ghost use Rattle.matchit.specs.Seek.{first};
-ghost use Rattle.op_http.specs.RouteTable.{with_route, rows_from, places, address_methods, methods_at, methods_of, place_of, operation_at, allowed, asked_at};
+ghost use Rattle.op_model.specs.RouteTable.{with_route, rows_from, places, address_methods, methods_at, methods_of, place_of, operation_at, allowed, asked_at};
 ghost use Rattle.op_http.specs.Places.{place_of_row};
 ghost use Rattle.op_http.specs.Routes.{IsAsked};
 

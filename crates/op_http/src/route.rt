@@ -2,7 +2,7 @@
 ghost use Rattle.std.specs.Prelude.{◌≡◌, ◌≤◌, length, IfOk};
 ghost use Rattle.std.specs.List.{position_or_len, after_first};
 ghost use Rattle.op_names.specs.Forms.{is_slash};
-ghost use Rattle.op_http.specs.RouteTable.{is_question, segment, path_of, operation_of};
+ghost use Rattle.op_model.specs.RouteTable.{is_question, segment, path_of, operation_of};
 ghost use Rattle.op_http.specs.Routes.{route_with, Routed};
 
 use crate::operation::Operation;

@@ -1,76 +1,60 @@
--- What the body of a request means: a request, or what is wrong with it.
-use Rattle.std.specs.Prelude.{ℕ, ◌&&◌, nat_le, List, codes, if◌then◌else◌, Some, None, Ok, option_and_then, ok_or}
-use Rattle.std.specs.Option.{option_map_or}
-use Rattle.std.specs.Str.{is_utf8}
-use Rattle.std.specs.declared.option.Option.{Option}
+-- What a request as it came means: a request of the wallet, or its refusal.
+use Rattle.std.specs.Prelude.{ℕ, Bool, true, false, if◌then◌else◌, List, Ok, Err}
 use Rattle.std.specs.declared.result.Result.{Result}
-use Rattle.op_amount.specs.Code.{is_asset_code}
+use Rattle.op_names.specs.declared.Kind.TheVariants.{Incoming, Quote, Outgoing, Grant, Address}
 use Rattle.op_model.specs.Asking.{◌>>=◌}
+use Rattle.op_model.specs.GrantMembers.{grant_refused, grant_asked, continuation_meant}
+use Rattle.op_model.specs.Json.{with_members}
+use Rattle.op_model.specs.Members.{origin_asked, asset_asked, address_asked, transfer_asked, rate_asked, incoming_asked, quote_asked, outgoing_asked}
+use Rattle.op_model.specs.Parameters.{row_at, asset_at, list_asked, feed_asked}
+use Rattle.op_model.specs.Requests.{Raw}
+use Rattle.op_model.specs.RouteTable.{path_of, operation_of}
+use Rattle.op_model.specs.declared.operation.Operation.{Operation}
+use Rattle.op_model.specs.declared.operation.Operation.TheVariants as operations
 use Rattle.op_model.specs.declared.reply.Refusal.{Refusal}
-use Rattle.op_model.specs.declared.reply.Refusal.TheVariants.{BadJson, BadField}
+use Rattle.op_model.specs.declared.reply.Refusal.TheVariants.{NotFound}
 use Rattle.op_model.specs.declared.request.Request.{Request}
-use Rattle.op_model.specs.declared.request.Request.TheVariants.{AddAsset}
-use Rattle.serde_json.specs.Data.{Data, null, boolean, number, string, array, object}
-use Rattle.serde_json.specs.Read.{read}
-use Rattle.serde_json.specs.Find.{get, as_object, as_str, as_number, as_u64}
+use Rattle.op_model.specs.declared.request.Request.TheVariants as requests
 
--- ---- members
+-- what an operation is asked for by a target and a body; a body is read only where it has members
+abbrev pub asked_of : Operation → (target body : List ℕ) → Result Request Refusal
+asked_of operations.SetOrigin target body = with_members origin_asked body
+asked_of operations.AddAsset target body = with_members asset_asked body
+asked_of operations.ShowAsset target body = Ok (requests.ReadAsset (asset_at target))
+asked_of operations.AddAddress target body = with_members address_asked body
+asked_of operations.ShowAddress target body = Ok (requests.ReadAddress (row_at Address 2 target))
+asked_of operations.Deposit target body = with_members (transfer_asked requests.Deposit) body
+asked_of operations.Withdraw target body = with_members (transfer_asked requests.Withdraw) body
+asked_of operations.SetRate target body = with_members rate_asked body
+asked_of operations.AcceptInteraction target body = Ok (requests.Accept (row_at Grant 2 target))
+asked_of operations.RejectInteraction target body = Ok (requests.Reject (row_at Grant 2 target))
+asked_of operations.ShowPayment target body = Ok (requests.ReadPayment (row_at Outgoing 2 target))
+asked_of operations.CancelPayment target body = Ok (requests.CancelPayment (row_at Outgoing 2 target))
+asked_of operations.ReadAddress target body = Ok (requests.ShowAddress (path_of target))
+asked_of operations.AskGrant target body = grant_refused (with_members grant_asked body)
+asked_of operations.ContinueGrant target body = grant_refused (continuation_meant (row_at Grant 1 target) body)
+asked_of operations.CancelGrant target body = Ok (requests.CancelGrant (row_at Grant 1 target))
+asked_of operations.RotateToken target body = Ok (requests.RotateToken (row_at Grant 1 target))
+asked_of operations.RevokeToken target body = Ok (requests.RevokeToken (row_at Grant 1 target))
+asked_of operations.CreateIncoming target body = with_members incoming_asked body
+asked_of operations.ListIncoming target body = list_asked Incoming requests.ListIncomings target
+asked_of operations.ReadIncoming target body = Ok (requests.ReadIncoming (row_at Incoming 1 target))
+asked_of operations.CompleteIncoming target body = Ok (requests.CompleteIncoming (row_at Incoming 1 target))
+asked_of operations.CreateQuote target body = with_members quote_asked body
+asked_of operations.ReadQuote target body = Ok (requests.ReadQuote (row_at Quote 1 target))
+asked_of operations.CreateOutgoing target body = with_members outgoing_asked body
+asked_of operations.ListOutgoing target body = list_asked Outgoing requests.ListOutgoings target
+asked_of operations.ReadOutgoing target body = Ok (requests.ReadOutgoing (row_at Outgoing 1 target))
+asked_of operations.ReadMonetization target body = feed_asked target
 
--- the body as a JSON object (RFC 8259)
-abbrev pub if_object : Data → Option Data
-if_object d = option_and_then (λ members. Some d) (as_object d)
+-- the operations that are built; a route that is not built yet is not found
+abbrev pub is_built : Operation → Bool
+is_built operations.AddAsset = true
+is_built _ = false
 
-abbrev pub object_in : List ℕ → Option Data
-object_in body = option_and_then if_object (if is_utf8 body then read body else None)
+abbrev pub asked_if_built : Raw → Operation → Result Request Refusal
+asked_if_built raw operation = if is_built operation then asked_of operation raw.target raw.body else Err NotFound
 
--- a text
-abbrev pub text_in : List ℕ → Data → Option (List ℕ)
-text_in name d = option_and_then as_str (get name d)
-
--- a number without sign, point or exponent, within bounds
-abbrev pub if_within : (low high : ℕ) → ℕ → Option ℕ
-if_within low high n = if nat_le low n && nat_le n high then Some n else None
-
-abbrev pub number_of : (low high : ℕ) → Data → Option ℕ
-number_of low high d = option_and_then (if_within low high) (option_and_then as_u64 (as_number d))
-
-abbrev pub number_in : (low high : ℕ) → List ℕ → Data → Option ℕ
-number_in low high name d = option_and_then (number_of low high) (get name d)
-
--- an optional member that is `null` is absent
-abbrev pub if_there : Data → Option Data
-if_there null = None
-if_there (boolean b) = Some (boolean b)
-if_there (number n) = Some (number n)
-if_there (string s) = Some (string s)
-if_there (array items) = Some (array items)
-if_there (object members) = Some (object members)
-
-abbrev pub optional_in : List ℕ → Data → Option Data
-optional_in name d = option_and_then if_there (get name d)
-
--- ---- the request to add an asset: `assetCode`, `assetScale` and, where it is there, `pieces`
-
-abbrev pub if_code : List ℕ → Option (List ℕ)
-if_code text = if is_asset_code text then Some text else None
-
-abbrev pub code_in : Data → Option (List ℕ)
-code_in d = option_and_then if_code (text_in (codes "assetCode") d)
-
-abbrev pub scale_in : Data → Option ℕ
-scale_in d = number_in 0 18 (codes "assetScale") d
-
--- 1 where it is absent
-abbrev pub pieces_in : Data → Option ℕ
-pieces_in d = option_map_or (number_of 1 64) (optional_in (codes "pieces") d) (Some 1)
-
--- the first member that is missing or breaks its form is named
-abbrev pub asset_asked : Data → Result Request Refusal
-asset_asked d = do
-  code ← ok_or (code_in d) (BadField (codes "assetCode"))
-  scale ← ok_or (scale_in d) (BadField (codes "assetScale"))
-  pieces ← ok_or (pieces_in d) (BadField (codes "pieces"))
-  Ok (AddAsset (record { code = code; scale = scale }) pieces)
-
-abbrev pub meant : List ℕ → Result Request Refusal
-meant body = ok_or (object_in body) BadJson >>= asset_asked
+-- the request that is meant, or its refusal
+abbrev pub meant : Raw → Result Request Refusal
+meant raw = operation_of raw.method raw.target >>= asked_if_built raw

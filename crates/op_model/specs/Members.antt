@@ -1,6 +1,6 @@
--- What the members of bodies and the parameters of queries mean, a request for each route that has some. The first that is
--- missing or breaks its form is named, in the order in which they are read. Members and types are those of Open Payments
--- (amount, incoming payment, quote, outgoing payment) and RFC 9635, section 2 (a grant request).
+-- What the members of bodies mean, a request for each route that has some. The first that is missing or breaks its form is
+-- named, in the order in which they are read. Members and types are those of Open Payments
+-- (amount, incoming payment, quote, outgoing payment); what a grant request has stands in its own file.
 use Rattle.std.specs.Prelude.{◌≡◌, ℕ, ◌+◌, ◌==◌, Bool, true, false, not, ◌&&◌, ◌||◌, nat_le, nat_lt, if◌then◌else◌, List, [], ◌∷◌, length, map, codes, bit_or, fold, Some, None, Ok, Err, option_map, option_and_then, ok_or}
 use Rattle.std.specs.List.{list_all, list_any, find}
 use Rattle.std.specs.Option.{option_map_or, is_some, is_none}
@@ -8,6 +8,7 @@ use Rattle.std.specs.Result.{result_ok}
 use Rattle.std.specs.Str.{bytes_eq}
 use Rattle.std.specs.declared.option.Option.{Option}
 use Rattle.std.specs.declared.result.Result.{Result}
+use Rattle.op_amount.specs.Code.{is_asset_code}
 use Rattle.op_amount.specs.Values.{value_of}
 use Rattle.op_amount.specs.declared.Amount.{Amount}
 use Rattle.op_amount.specs.declared.Asset.{Asset}
@@ -20,7 +21,7 @@ use Rattle.op_time.specs.MomentTexts.{moment_of}
 use Rattle.op_time.specs.Texts.{interval_of}
 use Rattle.op_model.specs.Asking.{◌>>=◌, refuse_if}
 use Rattle.op_model.specs.Legal.{is_text}
-use Rattle.op_model.specs.Meant.{text_in, number_in, optional_in, if_code, code_in, scale_in}
+use Rattle.op_model.specs.Json.{text_in, number_of, number_in, optional_in, or_bad}
 use Rattle.op_model.specs.Metadata.{is_metadata}
 use Rattle.op_model.specs.declared.reply.Refusal.{Refusal}
 use Rattle.op_model.specs.declared.reply.Refusal.TheVariants.{BadField, InvalidRequest}
@@ -41,6 +42,15 @@ abbrev pub text_if : (List ℕ → Bool) → List ℕ → Data → Option (List 
 text_if test name d = option_and_then (λ text. if test text then Some text else None) (text_in name d)
 
 -- an asset: `assetCode` and `assetScale`
+abbrev pub if_code : List ℕ → Option (List ℕ)
+if_code text = if is_asset_code text then Some text else None
+
+abbrev pub code_in : Data → Option (List ℕ)
+code_in d = option_and_then if_code (text_in (codes "assetCode") d)
+
+abbrev pub scale_in : Data → Option ℕ
+scale_in d = number_in 0 18 (codes "assetScale") d
+
 abbrev pub asset_of : Data → Option Asset
 asset_of d = option_and_then (λ code. option_map (λ scale. record { code = code; scale = scale }) (scale_in d)) (code_in d)
 
@@ -71,16 +81,23 @@ account_of text =
     if bytes_eq text (codes "pool") then accounts.Pool
     else (if bytes_eq text (codes "fees") then accounts.Fees else accounts.Address (address_in text))
 
--- the value, or the refusal that names the member
-abbrev pub or_bad : {X : Type 0} → List ℕ → Option X → Result X Refusal
-or_bad name value = ok_or value (BadField name)
-
 -- ---- the provider's routes
 
 abbrev pub origin_asked : Data → Result Request Refusal
 origin_asked d = do
   origin ← or_bad (codes "origin") (text_if is_origin (codes "origin") d)
   Ok (requests.SetOrigin origin)
+
+-- as many pieces as are asked for, or 1
+abbrev pub pieces_in : Data → Option ℕ
+pieces_in d = option_map_or (number_of 1 64) (optional_in (codes "pieces") d) (Some 1)
+
+abbrev pub asset_asked : Data → Result Request Refusal
+asset_asked d = do
+  code ← or_bad (codes "assetCode") (code_in d)
+  scale ← or_bad (codes "assetScale") (scale_in d)
+  pieces ← or_bad (codes "pieces") (pieces_in d)
+  Ok (requests.AddAsset (record { code = code; scale = scale }) pieces)
 
 abbrev pub address_asked : Data → Result Request Refusal
 address_asked d = do

@@ -1,11 +1,8 @@
 -- What the program does, and the exit status that it answers.
-use Rattle.std.specs.Prelude.{◌≡◌, ℕ, Bool, false, ◌&&◌, ◌==◌, not, nat_le, List, [], ◌∷◌, length, slice_index, codes}
+use Rattle.std.specs.Prelude.{ℕ, Bool, false, ◌&&◌, ◌==◌, not, nat_le, List, [], ◌∷◌, length, slice_index, codes}
 use Rattle.std.specs.Str.{bytes_eq}
-use Rattle.op_model.specs.Session.{Session, fresh, IsCompleteKnown}
-use Rattle.op_model.specs.World.{World}
-use Rattle.op_model.specs.declared.act.Entry.{Entry}
 use Rattle.op_model.specs.declared.end.End.{End}
-use Rattle.op_model.specs.declared.end.End.TheVariants.{Done, ReadFault, WriteFault, OutOfMemory, Malformed, TurnLimit}
+use Rattle.op_model.specs.declared.end.End.TheVariants.{Done, ReadFault, DiskFault, WriteFault, JournalFull, OutOfMemory, WordsFault, Malformed, TurnLimit}
 
 -- ---- the words of the command line
 
@@ -20,22 +17,20 @@ is_command _ = false
 
 -- ---- statuses
 
--- the status of words that are no command
+-- the status of words that are no command, and of a journal that spells no legal history
 abbrev pub usage_code : ℕ
 usage_code = 2
+
+abbrev pub illegal_code : ℕ
+illegal_code = 3
 
 abbrev pub code_of : End → ℕ
 code_of Done = 0
 code_of ReadFault = 4
+code_of DiskFault = 5
 code_of WriteFault = 6
+code_of JournalFull = 7
 code_of OutOfMemory = 8
+code_of WordsFault = 9
 code_of Malformed = 10
 code_of TurnLimit = 11
-
--- ---- a call of `apply`: a session from the empty history that ends with this status, and what was written in it
-pub record Applies (before after : World) (code : ℕ) : Type 0 where
-  pub end : End
-  pub final : List Entry
-  pub session : Session (fresh before) after end final
-  pub status : code ≡ code_of end
-  pub complete : IsCompleteKnown end session.turns final before after

@@ -1,87 +1,148 @@
 -- Sessions: turns, and then the one way in which it ends.
-use Rattle.std.specs.Prelude.{◌≡◌, ◌<◌, ◌≤◌, ℕ, ◌⊎◌, List, [], ◌∷◌, ◌++◌, length, Some, IfSome, ⊤}
+use Rattle.std.specs.Prelude.{◌≡◌, ◌≢◌, ◌<◌, ◌≤◌, ℕ, ◌⊎◌, List, [], ◌∷◌, ◌++◌, length, Some, IfSome, ⊤}
 use Rattle.std.specs.List.{flat_map}
 use Rattle.std.specs.Io.KnownBytes.{Consumes, Appends, Keeps, IsAtEnd}
 use Rattle.std.specs.declared.option.Option.{Option}
 use Rattle.op_ports.specs.Clock.{AsksKnown}
 use Rattle.op_ports.specs.Sink.{AppendsFront}
+use Rattle.op_ports.specs.Words.{DrawsKnown}
 use Rattle.op_model.specs.Printed.{printed}
-use Rattle.op_model.specs.Stream.{HasNoRequest, IsMalformed}
+use Rattle.op_model.specs.Requests.{IsWholeRequest, IsEnded, IsBadHttp, IsLengthRequired, IsTooLarge, BeginsWithNoRequest, Raw}
 use Rattle.op_model.specs.Turn.{Standing, Turn, Begins, Run, turn_limit, refusal_reply}
 use Rattle.op_model.specs.World.{World}
 use Rattle.op_model.specs.declared.act.Entry.{Entry}
 use Rattle.op_model.specs.declared.end.End.{End}
-use Rattle.op_model.specs.declared.end.End.TheVariants.{Done, ReadFault, WriteFault, OutOfMemory, Malformed, TurnLimit}
+use Rattle.op_model.specs.declared.end.End.TheVariants as ends
 use Rattle.op_model.specs.declared.reply.Reply.{Reply}
-use Rattle.op_model.specs.declared.reply.Refusal.TheVariants.{BadHttp}
+use Rattle.op_model.specs.declared.reply.Refusal.{Refusal}
+use Rattle.op_model.specs.declared.reply.Refusal.TheVariants.{BadHttp, LengthRequired, RequestTooLarge, DiskFault, JournalFull}
 
--- ---- how it ends
+-- ---- what there is at the end
 
--- the reply to a rest that begins with no request
-abbrev pub last_refusal : Standing → Reply
-last_refusal last = refusal_reply last.history (BadHttp last.at)
+-- what was read, asked and drawn behind the last whole turn
+pub record Since : Type 0 where
+  pub held : List ℕ
+  pub asked : List ℕ
+  pub drawn : List (List ℕ)
 
--- nothing was asked, written or added since
-pub record IsIdle (last : Standing) (after : World) (asked : List ℕ) (final : List Entry) : Type 0 where
-  pub unasked : asked ≡ []
+-- the history that stands, and the one that a commit that failed may have left on the disk in its place
+pub record Final : Type 0 where
+  pub stands : List Entry
+  pub tried : List Entry
+
+abbrev pub settled : List Entry → Final
+settled history = record { stands = history; tried = history }
+
+-- how much of a reply was written: all of it, or some of its front
+abbrev pub Writing : Type 1
+Writing = (old new : Option (List ℕ)) → List ℕ → Type 0
+
+-- ---- the ways in which it ends
+
+-- nothing was asked, drawn, written or added since
+pub record IsIdle (last : Standing) (after : World) (since : Since) (final : Final) : Type 0 where
+  pub unasked : since.asked ≡ []
+  pub undrawn : since.drawn ≡ []
   pub unwritten : Keeps last.world.written after.written
-  pub same : final ≡ last.history
+  pub same : final ≡ settled last.history
 
--- a further request was read and answered, and some of its reply was written; its act stands
-pub record CutsReply (last : Standing) (after : World) (held asked : List ℕ) (final : List Entry) : Type 0 where
-  pub turn : Turn
-  pub mid : Standing
+-- a further request was read and answered
+pub record AnswersOne (last : Standing) (turn : Turn) (mid : Standing) (since : Since) : Type 0 where
   pub begun : Begins last turn mid
   -- what was read behind it
   pub more : List ℕ
-  pub read : held ≡ turn.text ++ more
-  pub once : asked ≡ turn.answer ∷ []
-  pub written : AppendsFront last.world.written after.written (printed turn.reply)
-  pub stands : final ≡ mid.history
+  pub read : since.held ≡ turn.text ++ more
+  pub asked : since.asked ≡ turn.answer ∷ []
+  pub drawn : since.drawn ≡ turn.word ∷ []
 
--- what is left, where it is told, is not empty and begins with no request
-abbrev pub IsRefused : Standing → Type 0
-IsRefused last = (last.answered < turn_limit) × IfSome last.world.left IsMalformed
+-- some of its reply was written; its act stands
+abbrev pub CutsReply : Standing → World → Since → Final → Type 0
+CutsReply last after since final = (turn : Turn) × (mid : Standing) × AnswersOne last turn mid since
+    × AppendsFront last.world.written after.written (printed turn.reply) × (final ≡ settled mid.history)
 
--- some of the last refusal was written
-abbrev pub CutsRefusal : Standing → World → (asked : List ℕ) → List Entry → Type 0
-CutsRefusal last after asked final = IsRefused last × (asked ≡ [])
-    × AppendsFront last.world.written after.written (printed (last_refusal last)) × (final ≡ last.history)
+-- its act did not come to stand
+pub record LosesRound (last mid : Standing) (since : Since) : Type 0 where
+  pub turn : Turn
+  pub answered : AnswersOne last turn mid since
+  pub acted : mid.history ≢ last.history
+
+-- the commit failed on the disk, and that is replied
+abbrev pub FailsOnDisk : Writing → Standing → World → Since → Final → Type 0
+FailsOnDisk writes last after since final = (mid : Standing) × LosesRound last mid since
+    × writes last.world.written after.written (printed (refusal_reply last.history DiskFault))
+    × (final ≡ record { stands = last.history; tried = mid.history })
+
+-- the round does not fit in the journal, and that is replied
+abbrev pub FailsForRoom : Writing → Standing → World → Since → Final → Type 0
+FailsForRoom writes last after since final = (mid : Standing) × LosesRound last mid since
+    × writes last.world.written after.written (printed (refusal_reply last.history JournalFull))
+    × (final ≡ settled last.history)
+
+-- a stream, where it is told, goes on from this offset with what is refused so
+abbrev pub IsRefusal : Refusal → ℕ → Option (List ℕ) → Type 0
+IsRefusal (BadHttp place) at left = (place ≡ at) × IfSome left IsBadHttp
+IsRefusal (LengthRequired place) at left = (place ≡ at) × IfSome left IsLengthRequired
+IsRefusal (RequestTooLarge place) at left = (place ≡ at) × IfSome left IsTooLarge
+IsRefusal _ at left = ⊥
+
+-- what is left begins with no request, and that is replied; neither the clock is asked nor a word drawn
+abbrev pub Refuses : Writing → Standing → World → Since → Final → Type 0
+Refuses writes last after since final = (refusal : Refusal) × (last.answered < turn_limit)
+    × IsRefusal refusal last.at last.world.left × (since.asked ≡ []) × (since.drawn ≡ [])
+    × writes last.world.written after.written (printed (refusal_reply last.history refusal)) × (final ≡ settled last.history)
+
+-- a request was read and the clock was asked, but no word was drawn
+pub record DrawsNone (last : Standing) (after : World) (since : Since) (final : Final) : Type 0 where
+  pub limit : last.answered < turn_limit
+  pub text : List ℕ
+  pub raw : Raw
+  pub spelled : IsWholeRequest text raw
+  pub more : List ℕ
+  pub read : since.held ≡ text ++ more
+  pub asked : length since.asked ≡ 1
+  pub undrawn : since.drawn ≡ []
+  pub unwritten : Keeps last.world.written after.written
+  pub same : final ≡ settled last.history
 
 -- why it ends
-abbrev pub Cause : End → Standing → World → (held asked : List ℕ) → List Entry → Type 0
-Cause Done last after held asked final =
-    (last.answered < turn_limit) × (held ≡ []) × IsAtEnd after.left × IsIdle last after asked final
-Cause Malformed last after held asked final = IsRefused last × (asked ≡ [])
-    × Appends last.world.written after.written (printed (last_refusal last)) × (final ≡ last.history)
-Cause TurnLimit last after held asked final = (last.answered ≡ turn_limit) × IsIdle last after asked final
+abbrev pub Cause : End → Standing → World → Since → Final → Type 0
+Cause ends.Done last after since final =
+    (last.answered < turn_limit) × IsEnded since.held × IsAtEnd after.left × IsIdle last after since final
+Cause ends.Malformed last after since final = Refuses Appends last after since final
+Cause ends.TurnLimit last after since final = (last.answered ≡ turn_limit) × IsIdle last after since final
 -- what was read since begins with no request, so each request that was read whole has its reply
-Cause ReadFault last after held asked final = (last.answered < turn_limit) × HasNoRequest held × IsIdle last after asked final
-Cause WriteFault last after held asked final = CutsReply last after held asked final ⊎ CutsRefusal last after asked final
-Cause OutOfMemory last after held asked final =
-    (length asked ≤ 1) × Keeps last.world.written after.written × (final ≡ last.history)
+Cause ends.ReadFault last after since final =
+    (last.answered < turn_limit) × BeginsWithNoRequest since.held × IsIdle last after since final
+Cause ends.WordsFault last after since final = DrawsNone last after since final
+Cause ends.DiskFault last after since final = FailsOnDisk Appends last after since final
+Cause ends.JournalFull last after since final = FailsForRoom Appends last after since final
+-- a reply, the last refusal, or the reply to a round that does not stand
+Cause ends.WriteFault last after since final =
+    CutsReply last after since final ⊎ Refuses AppendsFront last after since final
+    ⊎ FailsOnDisk AppendsFront last after since final ⊎ FailsForRoom AppendsFront last after since final
+Cause ends.OutOfMemory last after since final =
+    (length since.asked ≤ 1) × (length since.drawn ≤ 1) × Keeps last.world.written after.written × (final ≡ settled last.history)
 
 -- how it ends after its last whole turn
-pub record Ends (end : End) (last : Standing) (after : World) (final : List Entry) : Type 0 where
-  -- read, but not answered whole
-  pub held : List ℕ
-  pub read : Consumes last.world.left after.left held
-  -- asked, but not answered whole
-  pub asked : List ℕ
-  pub clock : AsksKnown last.world.answers after.answers asked
-  pub cause : Cause end last after held asked final
+pub record Ends (end : End) (last : Standing) (after : World) (final : Final) : Type 0 where
+  -- read, asked and drawn, but not answered whole
+  pub since : Since
+  pub read : Consumes last.world.left after.left since.held
+  pub clock : AsksKnown last.world.answers after.answers since.asked
+  pub draws : DrawsKnown last.world.words after.words since.drawn
+  pub cause : Cause end last after since final
 
 -- ---- the whole
 
-pub record Session (first : Standing) (after : World) (end : End) (final : List Entry) : Type 0 where
+pub record Session (first : Standing) (after : World) (end : End) (final : Final) : Type 0 where
   pub turns : List Turn
   pub last : Standing
   pub run : Run first turns last
   pub ends : Ends end last after final
 
--- at the beginning
-abbrev pub fresh : World → Standing
-fresh world = record { history = []; answered = 0; at = 0; world = world }
+-- at the beginning: the history that was found, and nothing read yet
+abbrev pub begun : List Entry → World → Standing
+begun history world = record { history = history; answered = 0; at = 0; world = world }
 
 -- ---- completeness: over a stream that is told, what is written follows from what is read
 
@@ -96,22 +157,18 @@ pub record IsAnswered (turns : List Turn) (bytes rest old : List ℕ) (new : Opt
   pub read : bytes ≡ texts turns ++ rest
   pub written : new ≡ Some (old ++ (replies turns ++ behind))
 
--- the last refusal of a session over a whole stream
-abbrev pub refusal_behind : List Entry → List Turn → List ℕ
-refusal_behind final turns = printed (refusal_reply final (BadHttp (length (texts turns))))
-
--- a session that ended for no fault and no want of memory: the whole stream was requests, and each has its reply
-abbrev pub IsComplete : End → List Turn → List Entry → (bytes old : List ℕ) → Option (List ℕ) → Type 0
-IsComplete Done turns final bytes old new = IsAnswered turns bytes [] old new []
-IsComplete Malformed turns final bytes old new =
-    (rest : List ℕ) × IsMalformed rest × IsAnswered turns bytes rest old new (refusal_behind final turns)
-IsComplete TurnLimit turns final bytes old new =
+-- A session that ended for no fault, no want of memory and no want of room: the whole stream was requests, and each has
+-- its reply; a rest that is refused has its refusal.
+abbrev pub IsComplete : End → List Turn → Final → (bytes old : List ℕ) → Option (List ℕ) → Type 0
+IsComplete ends.Done turns final bytes old new = (rest : List ℕ) × IsEnded rest × IsAnswered turns bytes rest old new []
+IsComplete ends.Malformed turns final bytes old new =
+    (rest : List ℕ) × (refusal : Refusal) × IsRefusal refusal (length (texts turns)) (Some rest)
+    × IsAnswered turns bytes rest old new (printed (refusal_reply final.stands refusal))
+IsComplete ends.TurnLimit turns final bytes old new =
     (rest : List ℕ) × (length turns ≡ turn_limit) × IsAnswered turns bytes rest old new []
-IsComplete ReadFault turns final bytes old new = ⊤
-IsComplete WriteFault turns final bytes old new = ⊤
-IsComplete OutOfMemory turns final bytes old new = ⊤
+IsComplete _ turns final bytes old new = ⊤
 
 -- where the stream and what was written are told
-abbrev pub IsCompleteKnown : End → List Turn → List Entry → World → World → Type 0
+abbrev pub IsCompleteKnown : End → List Turn → Final → World → World → Type 0
 IsCompleteKnown end turns final before after =
     (bytes old : List ℕ) → before.left ≡ Some bytes → before.written ≡ Some old → IsComplete end turns final bytes old after.written

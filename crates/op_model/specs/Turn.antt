@@ -3,11 +3,12 @@ use Rattle.std.specs.Prelude.{◌≡◌, ◌+◌, ◌<◌, ℕ, Bool, false, if�
 use Rattle.std.specs.Io.KnownBytes.{Consumes, Appends}
 use Rattle.std.specs.declared.result.Result.{Result}
 use Rattle.op_ports.specs.Clock.{AsksKnown}
+use Rattle.op_ports.specs.Words.{DrawsKnown}
 use Rattle.op_model.specs.History.{moment_of_turn, origin_of}
 use Rattle.op_model.specs.Meant.{meant}
 use Rattle.op_model.specs.Printed.{printed}
 use Rattle.op_model.specs.Round.{Terms, Handled, IsPlainRound}
-use Rattle.op_model.specs.Stream.{IsRequest}
+use Rattle.op_model.specs.Requests.{Raw, IsWholeRequest}
 use Rattle.op_model.specs.World.{World}
 use Rattle.op_model.specs.declared.act.Entry.{Entry}
 use Rattle.op_model.specs.declared.reply.Reply.{Reply}
@@ -23,12 +24,12 @@ abbrev pub turn_limit : ℕ
 turn_limit = 1000000000
 
 pub record Turn : Type 0 where
-  -- the request's bytes in the stream, and its body
+  -- the request's bytes in the stream, and its parts
   pub text : List ℕ
-  pub body : List ℕ
+  pub raw : Raw
   -- what the clock answered
   pub answer : ℕ
-  -- sixteen bytes; no act that is built so far keeps them
+  -- what was drawn
   pub word : List ℕ
   pub wanted_memory : Bool
   pub reply : Reply
@@ -76,14 +77,15 @@ pub record Standing : Type 0 where
   -- what is left to read begins with it
   pub world : World
 
--- A request is read, the clock is asked once, and the request is answered. The reply is not written yet.
+-- A request is read, the clock is asked and a word is drawn, once each, and the request is answered. The reply is not
+-- written yet.
 pub record Begins (old : Standing) (turn : Turn) (new : Standing) : Type 0 where
   pub limit : old.answered < turn_limit
-  pub spelled : IsRequest turn.text turn.body
+  pub spelled : IsWholeRequest turn.text turn.raw
   pub read : Consumes old.world.left new.world.left turn.text
   pub asked : AsksKnown old.world.answers new.world.answers (turn.answer ∷ [])
-  pub drawn : length turn.word ≡ 16
-  pub replied : IsReplied old.history turn (meant turn.body) new.history
+  pub drawn : DrawsKnown old.world.words new.world.words (turn.word ∷ [])
+  pub replied : IsReplied old.history turn (meant turn.raw) new.history
   pub counted : new.answered ≡ old.answered + 1
   pub moved : new.at ≡ old.at + length turn.text
 

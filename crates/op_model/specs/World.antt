@@ -8,5 +8,7 @@ pub record World : Type 0 where
   pub left : Option (List ℕ)
   -- what the clock will answer
   pub answers : Option (List ℕ)
+  -- the words that will be drawn
+  pub words : Option (List (List ℕ))
   -- what was written
   pub written : Option (List ℕ)

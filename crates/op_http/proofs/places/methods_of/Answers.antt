@@ -1,6 +1,6 @@
 use Rattle.std.proofs.Common.{◌≡◌, Option, IfOk, subst, ◌∙◌}
-use Rattle.op_http.specs.RouteTable.{place_of}
-use Rattle.op_http.specs.declared.operation.Methods.{Methods}
+use Rattle.op_model.specs.RouteTable.{place_of}
+use Rattle.op_model.specs.declared.operation.Methods.{Methods}
 use Rattle.op_http.proofs.Routers.{row_is_place, methods_found, methods_beside}
 use Rattle.op_http.proofs.places.methods_of.Goals as goal
 

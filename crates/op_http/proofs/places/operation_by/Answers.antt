@@ -1,6 +1,6 @@
 use Rattle.std.proofs.Common.{List, ℕ, Option, ap, sym, subst, ◌∙◌}
-use Rattle.op_http.specs.RouteTable.{place_of, methods_at, asked_at}
-use Rattle.op_http.specs.declared.operation.Methods.{Methods}
+use Rattle.op_model.specs.RouteTable.{place_of, methods_at, asked_at}
+use Rattle.op_model.specs.declared.operation.Methods.{Methods}
 use Rattle.op_http.specs.Routes.{IsAsked}
 use Rattle.op_http.proofs.Routers.{unreadable, readable}
 use Rattle.op_http.proofs.places.operation_by.Goals as goal

@@ -1,5 +1,5 @@
 use Rattle.std.proofs.Common.{◌≡◌, [], map, drop}
-use Rattle.op_http.specs.RouteTable.{rows_from}
+use Rattle.op_model.specs.RouteTable.{rows_from}
 use Rattle.op_http.specs.Places.{place_of_row}
 use Rattle.op_http.proofs.places.router_of.Given as goal
 

@@ -1,6 +1,6 @@
 use Rattle.std.proofs.Common.{length, get_or, eq-eqb, sym, arith}
 use Rattle.std.proofs.lemmas.List.Sums.{position_or_len_is}
-use Rattle.op_http.specs.RouteTable.{is_question}
+use Rattle.op_model.specs.RouteTable.{is_question}
 use Rattle.op_http.proofs.route.question_at.Goals as goal
 
 pub returns-clause-value : goal.returns-clause-value

@@ -1,5 +1,5 @@
 use Rattle.std.proofs.Common.{◌≡◌, ℕ, ◌<◌, false, get_or}
-use Rattle.op_http.specs.RouteTable.{is_question}
+use Rattle.op_model.specs.RouteTable.{is_question}
 use Rattle.op_http.proofs.route.question_at.Given as goal
 
 abbrev pub invariant-loop-i : goal.invariant-loop-i

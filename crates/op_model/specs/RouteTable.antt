@@ -12,9 +12,9 @@ use Rattle.matchit.specs.Order.{placed}
 use Rattle.matchit.specs.Seek.{first}
 use Rattle.matchit.specs.declared.error.InsertError.{InsertError}
 use Rattle.op_names.specs.Forms.{is_slash, is_path}
-use Rattle.op_http.specs.declared.operation.Methods.{Methods}
-use Rattle.op_http.specs.declared.operation.Operation.{Operation}
-use Rattle.op_http.specs.declared.operation.Operation.TheVariants.{SetOrigin, AddAsset, ShowAsset, AddAddress, ShowAddress, Deposit, Withdraw, SetRate, AcceptInteraction, RejectInteraction, ShowPayment, CancelPayment, ReadAddress, AskGrant, ContinueGrant, CancelGrant, RotateToken, RevokeToken, CreateIncoming, ListIncoming, ReadIncoming, CompleteIncoming, CreateQuote, ReadQuote, CreateOutgoing, ListOutgoing, ReadOutgoing, ReadMonetization}
+use Rattle.op_model.specs.declared.operation.Methods.{Methods}
+use Rattle.op_model.specs.declared.operation.Operation.{Operation}
+use Rattle.op_model.specs.declared.operation.Operation.TheVariants.{SetOrigin, AddAsset, ShowAsset, AddAddress, ShowAddress, Deposit, Withdraw, SetRate, AcceptInteraction, RejectInteraction, ShowPayment, CancelPayment, ReadAddress, AskGrant, ContinueGrant, CancelGrant, RotateToken, RevokeToken, CreateIncoming, ListIncoming, ReadIncoming, CompleteIncoming, CreateQuote, ReadQuote, CreateOutgoing, ListOutgoing, ReadOutgoing, ReadMonetization}
 use Rattle.op_model.specs.declared.reply.Refusal.{Refusal}
 use Rattle.op_model.specs.declared.reply.Refusal.TheVariants.{NotFound, MethodNotAllowed}
 
