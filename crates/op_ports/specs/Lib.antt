@@ -5,3 +5,5 @@ pub mod MemorySource
 pub mod MemorySink
 pub mod Sink
 pub mod TableClock
+pub mod TableWords
+pub mod Words

@@ -69,8 +69,12 @@ pub struct SystemClock<R: std::rt::Clock + Drop> {
 }
 
 impl<R: std::rt::Clock + Drop> SystemClock<R> {
+    ghost use Rattle.op_ports.specs.Edges.{clock_runtime};
+
     /// The clock of this runtime.
-    pub fn new(rt: R) -> SystemClock<R> {
+    pub fn new(rt: R) -> SystemClock<R>
+        ensures runtime { clock_runtime result ≡ rt }
+    {
         SystemClock { rt }
     }
 }
