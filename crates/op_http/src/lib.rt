@@ -8,7 +8,6 @@ mod frame;
 mod head;
 mod length;
 mod marks;
-mod operation;
 mod places;
 mod reader;
 mod request;
@@ -19,7 +18,6 @@ mod route_tests;
 mod tests;
 mod write;
 
-pub use operation::{Methods, Operation};
 pub use reader::{HttpFault, Reader};
 pub use request::{Field, RawRequest};
 pub use route::{Route, RouteFault, find_route};

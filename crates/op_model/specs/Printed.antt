@@ -190,6 +190,10 @@ printed reply = option_map_or said_text (said reply.origin reply.body) []
 
 abbrev pub is_built_refusal : Refusal → Bool
 is_built_refusal (refusals.BadHttp at) = true
+is_built_refusal (refusals.LengthRequired at) = true
+is_built_refusal (refusals.RequestTooLarge at) = true
+is_built_refusal refusals.NotFound = true
+is_built_refusal (refusals.MethodNotAllowed allow) = true
 is_built_refusal refusals.BadJson = true
 is_built_refusal (refusals.BadField name) = is_utf8 name
 is_built_refusal refusals.AlreadyExists = true

@@ -1,35 +1,21 @@
 //! Bodies as requests.
 ghost use Rattle.std.specs.Prelude.{◌≡◌, ◌⊎◌, IfErr, option_map};
 ghost use Rattle.serde_json.specs.View.{view};
-ghost use Rattle.op_model.specs.Meant.{object_in, code_in, scale_in, pieces_in, number_of, optional_in};
-ghost use Rattle.op_cli.specs.Body.{IsMeant, IsObject, IsPrintable, bad_member};
+ghost use Rattle.op_model.specs.Json.{number_of, optional_in, with_members};
+ghost use Rattle.op_model.specs.Members.{code_in, scale_in, pieces_in, asset_asked};
+ghost use Rattle.op_api.specs.Body.{IsMeant, IsObject, IsPrintable, bad_member};
 
+use crate::request::ApiFault;
 use op_amount::{Asset, AssetCode};
-use op_model::{Refusal, Text};
+use op_model::{Refusal, Request, Text};
 use serde_json::Value;
 use std::alloc::Global;
 
 /// The largest scale of an asset.
 const SCALE_LIMIT: u64 = 18;
 
-/// A request to add an asset.
-#[derive(Clone, Copy)]
-pub struct AssetAsked {
-    pub asset: Asset,
-    pub pieces: u8,
-}
-
-/// Why a body gives no request.
-#[derive(Drop)]
-pub enum BodyFault {
-    /// It is refused.
-    Refused(Refusal),
-    /// Memory was wanting while it was read.
-    Memory,
-}
-
 /// The body as an object.
-fn object_in(alloc: Global, body: &[u8]) -> Result<Value, BodyFault>
+fn object_in(alloc: Global, body: &[u8]) -> Result<Value, ApiFault>
     ensures object { IsObject body.now result }
     ensures built { IfErr result IsPrintable }
 {
@@ -38,14 +24,14 @@ fn object_in(alloc: Global, body: &[u8]) -> Result<Value, BodyFault>
             if value.is_object() {
                 Ok(value)
             } else {
-                Err(BodyFault::Refused(Refusal::BadJson))
+                Err(ApiFault::Refused(Refusal::BadJson))
             }
         }
         Err(fault) => {
             if fault.is_memory() {
-                Err(BodyFault::Memory)
+                Err(ApiFault::Memory)
             } else {
-                Err(BodyFault::Refused(Refusal::BadJson))
+                Err(ApiFault::Refused(Refusal::BadJson))
             }
         }
     }
@@ -101,21 +87,21 @@ fn pieces_in(object: &Value) -> Option<u8>
 }
 
 /// The refusal that names a member.
-fn bad_member(alloc: Global, name: &str) -> BodyFault
-    ensures named { (result ≡ bad_member name.now) ⊎ (result ≡ BodyFault.Memory) }
+fn bad_member(alloc: Global, name: &str) -> ApiFault
+    ensures named { (result ≡ bad_member name.now) ⊎ (result ≡ ApiFault.Memory) }
     ensures built { IsPrintable result }
 {
     match Vec::from_slice(alloc, name.as_bytes()) {
-        Ok(bytes) => BodyFault::Refused(Refusal::BadField {
+        Ok(bytes) => ApiFault::Refused(Refusal::BadField {
             name: Text::new(bytes),
         }),
-        Err(_) => BodyFault::Memory,
+        Err(_) => ApiFault::Memory,
     }
 }
 
 /// The request to add an asset that a body means.
-pub fn read_asset(alloc: Global, body: &[u8]) -> Result<AssetAsked, BodyFault>
-    ensures meant { IsMeant body.now result }
+pub fn read_asset(alloc: Global, body: &[u8]) -> Result<Request, ApiFault>
+    ensures meant { IsMeant (with_members asset_asked body.now) result }
     ensures built { IfErr result IsPrintable }
 {
     let object = object_in(alloc, body)?;
@@ -128,7 +114,7 @@ pub fn read_asset(alloc: Global, body: &[u8]) -> Result<AssetAsked, BodyFault>
     let Some(pieces) = pieces_in(&object) else {
         return Err(bad_member(alloc, "pieces"));
     };
-    Ok(AssetAsked {
+    Ok(Request::AddAsset {
         asset: Asset { code, scale },
         pieces,
     })

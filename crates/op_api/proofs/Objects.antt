@@ -8,7 +8,7 @@ use Rattle.std.specs.Str.{is_utf8}
 use Rattle.serde_json.specs.Data.{Data}
 use Rattle.serde_json.specs.Find.{as_object}
 use Rattle.serde_json.specs.Read.{read}
-use Rattle.op_model.specs.Meant.{object_in}
+use Rattle.op_model.specs.Json.{object_in}
 
 if_some : {M : Type 0} (d : Data) (o : Option M) → is_some o ≡ true → option_and_then (λ m. Some d) o ≡ Some d
 if_some d None e = absurd cc

@@ -1,0 +1,6 @@
+mod Constant
+mod Heads
+mod Names
+mod Objects
+mod Routes
+mod Said

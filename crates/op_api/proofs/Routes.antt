@@ -1,0 +1,45 @@
+-- What a request means, by its route.
+use Rattle.std.proofs.Common.{◌≡◌, ℕ, List, Ok, Err, refl, sym, ap, ◌∙◌}
+use Rattle.std.specs.declared.result.Result.{Result}
+use Rattle.op_http.specs.Routes.{Routed, route_with}
+use Rattle.op_http.specs.declared.route.Route.{Route}
+use Rattle.op_api.specs.Routes.{asked_on}
+use Rattle.op_model.specs.Meant.{meant, asked_if_built}
+use Rattle.op_model.specs.Requests.{Raw}
+use Rattle.op_model.specs.RouteTable.{operation_of, path_of}
+use Rattle.op_model.specs.declared.operation.Operation.{Operation}
+use Rattle.op_model.specs.declared.operation.Operation.TheVariants as operations
+
+asked_on_route : (operation : Operation) (path : List ℕ) (raw : Raw) → asked_if_built raw operation ≡ asked_on (route_with operation path) raw
+asked_on_route operations.SetOrigin path raw = refl
+asked_on_route operations.AddAsset path raw = refl
+asked_on_route operations.ShowAsset path raw = refl
+asked_on_route operations.AddAddress path raw = refl
+asked_on_route operations.ShowAddress path raw = refl
+asked_on_route operations.Deposit path raw = refl
+asked_on_route operations.Withdraw path raw = refl
+asked_on_route operations.SetRate path raw = refl
+asked_on_route operations.AcceptInteraction path raw = refl
+asked_on_route operations.RejectInteraction path raw = refl
+asked_on_route operations.ShowPayment path raw = refl
+asked_on_route operations.CancelPayment path raw = refl
+asked_on_route operations.ReadAddress path raw = refl
+asked_on_route operations.AskGrant path raw = refl
+asked_on_route operations.ContinueGrant path raw = refl
+asked_on_route operations.CancelGrant path raw = refl
+asked_on_route operations.RotateToken path raw = refl
+asked_on_route operations.RevokeToken path raw = refl
+asked_on_route operations.CreateIncoming path raw = refl
+asked_on_route operations.ListIncoming path raw = refl
+asked_on_route operations.ReadIncoming path raw = refl
+asked_on_route operations.CompleteIncoming path raw = refl
+asked_on_route operations.CreateQuote path raw = refl
+asked_on_route operations.ReadQuote path raw = refl
+asked_on_route operations.CreateOutgoing path raw = refl
+asked_on_route operations.ListOutgoing path raw = refl
+asked_on_route operations.ReadOutgoing path raw = refl
+asked_on_route operations.ReadMonetization path raw = refl
+
+pub meant_on_route : (raw : Raw) (route : Route) → Routed (operation_of raw.method raw.target) (path_of raw.target) (Ok route) → meant raw ≡ asked_on route raw
+meant_on_route raw route (operation, asked, is) =
+    rw asked (asked_on_route operation (path_of raw.target) raw ∙ ap (λ (r : Route). asked_on r raw) (sym is))

@@ -1,0 +1,60 @@
+//! Requests as they came, and what they mean.
+ghost use Rattle.std.specs.Prelude.{◌≡◌, IfErr};
+ghost use Rattle.op_model.specs.Meant.{meant};
+ghost use Rattle.op_api.specs.Body.{IsMeant, IsPrintable, refusal_of};
+ghost use Rattle.op_api.specs.Routes.{asked_on};
+
+use crate::body::read_asset;
+use op_http::{RawRequest, Route, RouteFault, find_route};
+use op_model::{Refusal, Request};
+use std::alloc::Global;
+
+/// Why a request is not understood.
+#[derive(Drop)]
+pub enum ApiFault {
+    /// It is refused: for its path, its method, its parameters or its body.
+    Refused(Refusal),
+    /// Memory was wanting while it was read.
+    Memory,
+}
+
+/// The refusal of a request that has no route.
+fn unrouted(fault: RouteFault) -> ApiFault
+    ensures { result ≡ refusal_of fault }
+{
+    match fault {
+        RouteFault::NoRoute => ApiFault::Refused(Refusal::NotFound),
+        RouteFault::BadMethod { allow } => {
+            ApiFault::Refused(Refusal::MethodNotAllowed { allow })
+        }
+        RouteFault::Memory => ApiFault::Memory,
+    }
+}
+
+/// The request that this one means on its route. A route that is not built yet is not found.
+fn on_route(alloc: Global, route: &Route, raw: &RawRequest) -> Result<Request, ApiFault>
+    ensures meant { IsMeant (asked_on route.now raw.now) result }
+    ensures printable { IfErr result IsPrintable }
+{
+    match route {
+        Route::AddAsset => read_asset(alloc, raw.body()),
+        _ => Err(ApiFault::Refused(Refusal::NotFound)),
+    }
+}
+
+/// The request that this one means, by its method, target and body.
+///
+/// # Errors
+///
+/// `Refused` exactly where it means none: `NotFound` where no route has its path, or the route is not built yet,
+/// `MethodNotAllowed` where the path has other methods, `BadJson` where its body is no object, `BadField` with the first
+/// member that is missing or breaks its form. `Memory` where memory was wanting.
+pub fn prepare(alloc: Global, raw: &RawRequest) -> Result<Request, ApiFault>
+    ensures meant { IsMeant (meant raw.now) result }
+    ensures printable { IfErr result IsPrintable }
+{
+    match find_route(alloc, raw) {
+        Ok(route) => on_route(alloc, &route, raw),
+        Err(fault) => Err(unrouted(fault)),
+    }
+}
