@@ -1,5 +1,5 @@
 -- The parts of a reply, one behind another.
-use Rattle.std.proofs.Common.{◌≡◌, ◌++◌, ℕ, List, refl, append_assoc, rules}
+use Rattle.std.proofs.Common.{◌≡◌, ◌++◌, ℕ, List, refl, append_assoc}
 
 pub parts_in_order : (begin status end allow fields size more body : List ℕ)
     → (((begin ++ (status ++ end)) ++ allow) ++ (fields ++ (size ++ more))) ++ body ≡ begin ++ (status ++ (end ++ (allow ++ (fields ++ (size ++ (more ++ body))))))

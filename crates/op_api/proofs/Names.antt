@@ -1,7 +1,6 @@
 -- Names that have a printed form.
-use Rattle.std.proofs.Common.{◌≡◌, List, ℕ, Bool, true, false, IsTrue, Some, None, is_some, cond, IsUtf8, refl}
+use Rattle.std.proofs.Common.{List, ℕ, IsTrue, IsUtf8}
 use Rattle.std.proofs.lemmas.Str.{IsUtf8-from_is_utf8, is_utf8-from_IsUtf8}
-use Rattle.std.specs.Str.{is_utf8}
 use Rattle.op_model.specs.Printed.{is_built}
 use Rattle.op_model.specs.declared.reply.ReplyBody.TheVariants.{Refused}
 use Rattle.op_model.specs.declared.reply.Refusal.TheVariants.{BadField}

@@ -1,6 +1,5 @@
 -- What a request means, by its route.
-use Rattle.std.proofs.Common.{◌≡◌, ℕ, List, Ok, Err, refl, sym, ap, ◌∙◌}
-use Rattle.std.specs.declared.result.Result.{Result}
+use Rattle.std.proofs.Common.{◌≡◌, ℕ, List, Ok, refl, sym, ap, ◌∙◌}
 use Rattle.op_http.specs.Routes.{Routed, route_with}
 use Rattle.op_http.specs.declared.route.Route.{Route}
 use Rattle.op_api.specs.Routes.{asked_on}

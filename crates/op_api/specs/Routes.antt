@@ -1,5 +1,5 @@
 -- What is asked on a route that was found.
-use Rattle.std.specs.Prelude.{Ok, Err}
+use Rattle.std.specs.Prelude.{Err}
 use Rattle.std.specs.declared.result.Result.{Result}
 use Rattle.op_http.specs.declared.route.Route.{Route}
 use Rattle.op_http.specs.declared.route.Route.TheVariants as routes

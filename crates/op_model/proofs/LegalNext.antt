@@ -1,5 +1,5 @@
 -- A history is legal exactly where its beginning is and each entry behind it may follow.
-use Rattle.std.proofs.Common.{◌≡◌, ◌↔◌, subst, sym, List, [], ◌∷◌, ◌++◌, append_assoc, append-nil}
+use Rattle.std.proofs.Common.{◌↔◌, subst, sym, List, [], ◌∷◌, ◌++◌, append_assoc, append-nil}
 use Rattle.op_model.specs.Legal.{IsLegal, IsLegalFrom, IsNext}
 use Rattle.op_model.specs.declared.act.Entry.{Entry}
 

@@ -1,7 +1,7 @@
 -- The bodies of replies, as JSON values: members in ascending order of their names' bytes. The members are those of
 -- Open Payments (wallet address, incoming payment, quote, outgoing payment, lists), of RFC 9635 (grants) and of the
 -- Web Monetization specification (feeds); those of the provider's own routes are this project's.
-use Rattle.std.specs.Prelude.{ℕ, Bool, true, not, ◌==◌, nat_lt, if◌then◌else◌, List, [], ◌∷◌, ◌++◌, length, map, filter_map, slice_get, codes, bit_and, Some, None, unwrap_or}
+use Rattle.std.specs.Prelude.{ℕ, Bool, ◌==◌, if◌then◌else◌, List, [], ◌∷◌, ◌++◌, map, filter_map, slice_get, codes, bit_and, Some, None, unwrap_or}
 use Rattle.std.specs.List.{list_any}
 use Rattle.std.specs.Option.{option_map}
 use Rattle.std.specs.Fmt.{decimal}
@@ -11,7 +11,6 @@ use Rattle.op_amount.specs.declared.Asset.{Asset}
 use Rattle.op_amount.specs.declared.Amount.{Amount}
 use Rattle.op_names.specs.Ids.{id_text}
 use Rattle.op_names.specs.Interaction.{interaction_hash}
-use Rattle.op_names.specs.declared.Id.{Id}
 use Rattle.op_names.specs.declared.Kind.{Kind}
 use Rattle.op_names.specs.declared.Kind.TheVariants as kinds
 use Rattle.op_time.specs.MomentTexts.{moment_text}

@@ -18,7 +18,7 @@ use Rattle.op_names.specs.declared.RowName.{RowName}
 use Rattle.op_names.specs.declared.Letter.TheVariants.{Interaction}
 use Rattle.op_model.specs.Asking.{◌>>=◌}
 use Rattle.op_model.specs.Bodies.{action_names, type_text}
-use Rattle.op_model.specs.Json.{if_object, object_in, text_in, list_in, optional_in, each_of, or_bad, with_members}
+use Rattle.op_model.specs.Json.{if_object, text_in, list_in, optional_in, each_of, or_bad, with_members}
 use Rattle.op_model.specs.Legal.{is_item, is_interval}
 use Rattle.op_model.specs.Members.{text_if, member_of, optional_of, amount_of}
 use Rattle.op_model.specs.declared.grant.Finish.{Finish}

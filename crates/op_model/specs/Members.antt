@@ -1,9 +1,8 @@
 -- What the members of bodies mean, a request for each route that has some. The first that is missing or breaks its form is
 -- named, in the order in which they are read. Members and types are those of Open Payments
 -- (amount, incoming payment, quote, outgoing payment); what a grant request has stands in its own file.
-use Rattle.std.specs.Prelude.{◌≡◌, ℕ, ◌+◌, ◌==◌, Bool, true, false, not, ◌&&◌, ◌||◌, nat_le, nat_lt, if◌then◌else◌, List, [], ◌∷◌, length, map, codes, bit_or, fold, Some, None, Ok, Err, option_map, option_and_then, ok_or}
-use Rattle.std.specs.List.{list_all, list_any, find}
-use Rattle.std.specs.Option.{option_map_or, is_some, is_none}
+use Rattle.std.specs.Prelude.{ℕ, Bool, ◌&&◌, nat_le, if◌then◌else◌, List, codes, Some, None, Ok, option_map, option_and_then}
+use Rattle.std.specs.Option.{option_map_or}
 use Rattle.std.specs.Result.{result_ok}
 use Rattle.std.specs.Str.{bytes_eq}
 use Rattle.std.specs.declared.option.Option.{Option}
@@ -13,18 +12,15 @@ use Rattle.op_amount.specs.Values.{value_of}
 use Rattle.op_amount.specs.declared.Amount.{Amount}
 use Rattle.op_amount.specs.declared.Asset.{Asset}
 use Rattle.op_amount.specs.declared.TheConstants.{RATE_TOP}
-use Rattle.op_names.specs.Forms.{is_origin, is_path, is_word, is_client, is_finish_uri}
+use Rattle.op_names.specs.Forms.{is_origin, is_path, is_word}
 use Rattle.op_names.specs.Names.{address_in, row_in}
-use Rattle.op_names.specs.declared.AddressName.{AddressName}
 use Rattle.op_names.specs.declared.Kind.TheVariants as kinds
 use Rattle.op_time.specs.MomentTexts.{moment_of}
-use Rattle.op_time.specs.Texts.{interval_of}
-use Rattle.op_model.specs.Asking.{◌>>=◌, refuse_if}
+use Rattle.op_model.specs.Asking.{◌>>=◌}
 use Rattle.op_model.specs.Legal.{is_text}
 use Rattle.op_model.specs.Json.{text_in, number_of, number_in, optional_in, or_bad}
 use Rattle.op_model.specs.Metadata.{is_metadata}
 use Rattle.op_model.specs.declared.reply.Refusal.{Refusal}
-use Rattle.op_model.specs.declared.reply.Refusal.TheVariants.{BadField, InvalidRequest}
 use Rattle.op_model.specs.declared.request.AccountName.{AccountName}
 use Rattle.op_model.specs.declared.request.AccountName.TheVariants as accounts
 use Rattle.op_model.specs.declared.request.QuoteAsked.{QuoteAsked}
@@ -32,7 +28,7 @@ use Rattle.op_model.specs.declared.request.QuoteAsked.TheVariants as asked
 use Rattle.op_model.specs.declared.request.Request.{Request}
 use Rattle.op_model.specs.declared.request.Request.TheVariants as requests
 use Rattle.serde_json.specs.Data.{Data}
-use Rattle.serde_json.specs.Find.{get, as_object, as_str}
+use Rattle.serde_json.specs.Find.{get, as_str}
 use Rattle.serde_json.specs.Written.{compact_text}
 
 -- ---- values

@@ -1,5 +1,5 @@
 -- What the parameters of paths and of queries mean. A query is read as a form is (URL Standard, section 5.1), by its bytes.
-use Rattle.std.specs.Prelude.{ℕ, Bool, ◌&&◌, nat_le, if◌then◌else◌, List, length, codes, Some, None, Ok, option_map, option_and_then}
+use Rattle.std.specs.Prelude.{ℕ, if◌then◌else◌, List, codes, Some, None, Ok, option_map, option_and_then}
 use Rattle.std.specs.List.{after_first, find}
 use Rattle.std.specs.Option.{option_map_or}
 use Rattle.std.specs.Result.{result_ok}
