@@ -1,11 +1,5 @@
-mod Assets
-mod Fields
-mod FrontLaws
-mod Names
-mod Objects
-mod Refused
+mod Journals
 mod Results
 mod SessionLemmas
-mod Stream
 mod TurnLemmas
 mod WholeLemmas

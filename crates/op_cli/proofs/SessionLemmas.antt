@@ -2,39 +2,38 @@
 use Rattle.std.proofs.Common.{◌≡◌, ℕ, List, [], ◌∷◌, Some, None, refl, ap}
 use Rattle.std.specs.declared.option.Option.{Option}
 use Rattle.std.specs.Io.KnownBytes.{prepend_known}
-use Rattle.op_model.specs.Session.{Session, Ends, fresh}
+use Rattle.op_http.specs.Held.{Held}
+use Rattle.op_model.specs.Session.{Final, Session, Ends, begun, settled}
 use Rattle.op_model.specs.Turn.{Standing, Turn, IsTurn, turn_limit}
 use Rattle.op_model.specs.World.{World}
 use Rattle.op_model.specs.declared.act.Entry.{Entry}
 use Rattle.op_model.specs.declared.end.End.{End}
 use Rattle.op_model.specs.declared.end.End.TheVariants.{TurnLimit}
-use Rattle.op_cli.specs.Held.{Held}
 use Rattle.op_cli.specs.Turns.{here}
-use Rattle.op_cli.proofs.Stream.{consumes_held}
-use Rattle.op_cli.proofs.TurnLemmas.{asks_none, keeps_same}
+use Rattle.op_cli.proofs.TurnLemmas.{asks_none, draws_none, keeps_same, consumes_held}
 
 prepend_nothing : (left : Option (List ℕ)) → prepend_known [] left ≡ left
 prepend_nothing None = refl
 prepend_nothing (Some xs) = refl
 
 -- the beginning
-pub begins_fresh : (w : World) → here [] (record { bytes = []; at = 0 }) w 0 ≡ fresh w
-begins_fresh w = ap (λ (left : Option (List ℕ)). let s : Standing = record { history = []; answered = 0; at = 0; world = record w { left = left } } in s) (prepend_nothing w.left)
+pub begins_fresh : (first : List Entry) (w : World) → here first (record { bytes = []; at = 0 }) w 0 ≡ begun first w
+begins_fresh first w = ap (λ (left : Option (List ℕ)). let s : Standing = record { history = first; answered = 0; at = 0; world = record w { left = left } } in s) (prepend_nothing w.left)
 
 -- a turn, and the rest
-pub one_more : (a b : Standing) (turn : Turn) (after : World) (end : End) (final : List Entry) → IsTurn a turn b → Session b after end final → Session a after end final
+pub one_more : (a b : Standing) (turn : Turn) (after : World) (end : End) (final : Final) → IsTurn a turn b → Session b after end final → Session a after end final
 one_more a b turn after end final is rest = record { turns = turn ∷ rest.turns; last = rest.last; run = (b, is, rest.run); ends = rest.ends }
 
 -- no turn
-pub at_once : (a : Standing) (after : World) (end : End) (final : List Entry) → Ends end a after final → Session a after end final
+pub at_once : (a : Standing) (after : World) (end : End) (final : Final) → Ends end a after final → Session a after end final
 at_once a after end final ends = record { turns = []; last = a; run = refl; ends = ends }
 
 -- as many requests were answered as one session answers
-pub at_limit : (history : List Entry) (held : Held) (w : World) (n : ℕ) → n ≡ turn_limit → Ends TurnLimit (here history held w n) w history
+pub at_limit : (history : List Entry) (held : Held) (w : World) (n : ℕ) → n ≡ turn_limit → Ends TurnLimit (here history held w n) w (settled history)
 at_limit history held w n e = record {
-  held = held.bytes;
-  read = consumes_held held.bytes w.left;
-  asked = [];
+  since = record { held = held.bytes; asked = []; drawn = [] };
+  read = consumes_held held w.left;
   clock = asks_none w.answers;
-  cause = (e, record { unasked = refl; unwritten = keeps_same w.written; same = refl });
+  draws = draws_none w.words;
+  cause = (e, record { unasked = refl; undrawn = refl; unwritten = keeps_same w.written; same = refl });
 }

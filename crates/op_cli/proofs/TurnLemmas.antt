@@ -1,156 +1,208 @@
 -- What a turn's parts make.
-use Rattle.std.proofs.Common.{◌≡◌, ◌≤◌, ◌<◌, ◌+◌, ◌++◌, ℕ, List, [], ◌∷◌, Some, None, refl, ap, subst, ◌∙◌, arith, inl, inr}
+use Rattle.std.proofs.Common.{◌≡◌, ◌≢◌, ◌≤◌, ◌<◌, ◌+◌, ◌++◌, ℕ, Bool, List, [], ◌∷◌, Some, None, refl, sym, ap, subst, ◌∙◌, arith, append_assoc, inl, inr}
 use Rattle.std.specs.declared.option.Option.{Option}
-use Rattle.std.specs.Io.KnownBytes.{Consumes, Appends, Keeps}
+use Rattle.std.specs.Io.KnownBytes.{Consumes, Appends, Keeps, IsAtEnd}
+use Rattle.op_http.specs.Held.{Held}
+use Rattle.op_http.specs.Reader.{stream, Takes, Stays, HasEnded}
 use Rattle.op_ports.specs.Clock.{AsksKnown}
 use Rattle.op_ports.specs.Sink.{AppendsFront}
+use Rattle.op_ports.specs.Words.{DrawsKnown}
+use Rattle.op_model.specs.Meant.{meant}
 use Rattle.op_model.specs.Printed.{printed}
-use Rattle.op_model.specs.Turn.{Turn, Begins, turn_limit, refusal_reply}
+use Rattle.op_model.specs.Requests.{Raw, BeginsWithNoRequest}
+use Rattle.op_model.specs.Session.{Final, Ends, Cause, AnswersOne, LosesRound, IsRefusal, settled}
+use Rattle.op_model.specs.Turn.{Turn, Begins, IsTurn, turn_limit, refusal_reply}
 use Rattle.op_model.specs.World.{World}
 use Rattle.op_model.specs.declared.act.Entry.{Entry}
 use Rattle.op_model.specs.declared.end.End.{End}
-use Rattle.op_model.specs.declared.end.End.TheVariants.{Done, ReadFault, WriteFault, OutOfMemory, Malformed, TurnLimit}
+use Rattle.op_model.specs.declared.end.End.TheVariants as ends
 use Rattle.op_model.specs.declared.reply.Reply.{Reply}
-use Rattle.op_model.specs.declared.reply.Refusal.TheVariants.{BadHttp}
-use Rattle.op_cli.specs.declared.reader.HttpFault.TheVariants as http
-use Rattle.op_cli.specs.Held.{Held}
-use Rattle.op_cli.specs.Reader.{stream, Takes, Stays, Refuses}
-use Rattle.op_cli.specs.Turns.{here, Turns, Stops, AnswersNow, Replies, ReplyFails, RefusalEnds}
-use Rattle.op_cli.specs.Wallet.{turn_of}
-use Rattle.op_cli.proofs.FrontLaws.{request_short}
-use Rattle.op_cli.proofs.Stream.{consumes_trans, consumes_held}
+use Rattle.op_model.specs.declared.reply.Refusal.{Refusal}
+use Rattle.op_cli.specs.Turns.{here, Turns, Stops, turn_of, Answers, Replies, ReplyFails, RefusalEnds}
 
 pub asks_none : (told : Option (List ℕ)) → AsksKnown told told []
 asks_none None = tt
 asks_none (Some xs) = refl
 
+pub draws_none : (told : Option (List (List ℕ))) → DrawsKnown told told []
+draws_none None = tt
+draws_none (Some xs) = refl
+
 pub keeps_same : (known : Option (List ℕ)) → Keeps known known
 keeps_same None = tt
 keeps_same (Some xs) = refl
 
+consumes_trans : (a b c : Option (List ℕ)) (x y : List ℕ) → Consumes a b x → Consumes b c y → Consumes a c (x ++ y)
+consumes_trans None b c x y p q = tt
+consumes_trans (Some xs) None c x y p q = absurd p
+consumes_trans (Some xs) (Some ys) None x y p q = absurd q
+consumes_trans (Some xs) (Some ys) (Some zs) x y p q = p ∙ ap (λ k. x ++ k) q ∙ sym (append_assoc x y zs)
+
+-- what is held is consumed first
+pub consumes_held : (held : Held) (left : Option (List ℕ)) → Consumes (stream held left) left held.bytes
+consumes_held held None = tt
+consumes_held held (Some ys) = refl
+
 -- where nothing is taken, what is held was read
 stays_read : (h h' : Held) (left left' : Option (List ℕ)) → Stays h h' left left' → Consumes (stream h left) left' h'.bytes
-stays_read h h' left left' same = consumes_trans (stream h left) (stream h' left') left' [] h'.bytes same.0 (consumes_held h'.bytes left')
+stays_read h h' left left' same = consumes_trans (stream h left) (stream h' left') left' [] h'.bytes same.0 (consumes_held h' left')
 
-module _ (old new : List Entry) (h h' : Held) (w w' : World) (body : List ℕ) where
-  turn_here : Takes h h' w.left w'.left body → {reply : _} → AnswersNow old new w.answers w'.answers body reply → Turn
-  turn_here takes {reply} answers = turn_of takes.0 body answers.answer answers.answered.0 reply
+-- ---- a request was taken
 
-  begins : (takes : Takes h h' w.left w'.left body) {reply : _} (answers : AnswersNow old new w.answers w'.answers body reply) (n : ℕ) → n < turn_limit → Begins (here old h w n) (turn_here takes answers) (here new h' w' (n + 1))
-  unfolding turn_here
-  begins takes answers n below = record {
+module _ (old : List Entry) (h h' : Held) (w w' : World) (raw : Raw) (takes : Takes h h' w.left w'.left raw) (n : ℕ) (below : n < turn_limit) where
+  begins : (new : List Entry) (answer : ℕ) (word : List ℕ) (reply : Reply) → AsksKnown w.answers w'.answers (answer ∷ []) → DrawsKnown w.words w'.words (word ∷ []) → (answers : Answers old answer word (meant raw) reply new)
+      → Begins (here old h w n) (turn_of takes.text raw answer word answers.0 reply) (here new h' w' (n + 1))
+  begins new answer word reply asks draws answers = record {
     limit = below;
-    spelled = takes.1;
-    read = takes.2;
-    asked = answers.asked;
-    drawn = refl;
-    replied = answers.answered.1 takes.0;
+    spelled = takes.request;
+    read = takes.taken;
+    asked = asks;
+    drawn = draws;
+    replied = answers.1 takes.text raw;
     counted = refl;
-    moved = takes.3;
+    moved = takes.at;
   }
 
-  pub turns : Takes h h' w.left w'.left body → Replies old new w.answers w'.answers w.written w'.written body → Turns (here old h w) (here new h' w')
-  unfolding turn_here
-  turns takes replies n below = (turn_here takes replies.1, record { begun = begins takes replies.1 n below; written = replies.2 })
+  read_since : Consumes (stream h w.left) w'.left (takes.text ++ h'.bytes)
+  read_since = consumes_trans (stream h w.left) (stream h' w'.left) w'.left takes.text h'.bytes takes.taken (consumes_held h' w'.left)
+
+  answers_one : (new : List Entry) (answer : ℕ) (word : List ℕ) (reply : Reply) → AsksKnown w.answers w'.answers (answer ∷ []) → DrawsKnown w.words w'.words (word ∷ []) → (answers : Answers old answer word (meant raw) reply new)
+      → AnswersOne (here old h w n) (turn_of takes.text raw answer word answers.0 reply) (here new h' w' (n + 1)) (record { held = takes.text ++ h'.bytes; asked = answer ∷ []; drawn = word ∷ [] })
+  answers_one new answer word reply asks draws answers = record {
+    begun = begins new answer word reply asks draws answers;
+    more = h'.bytes;
+    read = refl;
+    asked = refl;
+    drawn = refl;
+  }
+
+  pub turns_now : (new : List Entry) → Replies old new w w' raw → (turn : Turn) × IsTurn (here old h w n) turn (here new h' w' (n + 1))
+  turns_now new (answer, word, asks, draws, (reply, answers, written)) =
+      (turn_of takes.text raw answer word answers.0 reply, record { begun = begins new answer word reply asks draws answers; written = written })
+
+  -- its act did not come to stand
+  loses : (new : List Entry) (answer : ℕ) (word : List ℕ) (reply : Reply) → AsksKnown w.answers w'.answers (answer ∷ []) → DrawsKnown w.words w'.words (word ∷ []) → (answers : Answers old answer word (meant raw) reply new) → new ≢ old
+      → LosesRound (here old h w n) (here new h' w' (n + 1)) (record { held = takes.text ++ h'.bytes; asked = answer ∷ []; drawn = word ∷ [] })
+  loses new answer word reply asks draws answers differs = record {
+    turn = turn_of takes.text raw answer word answers.0 reply;
+    answered = answers_one new answer word reply asks draws answers;
+    acted = differs;
+  }
+
+  ended : (end : End) (final : Final) (answer : ℕ) (word : List ℕ) → AsksKnown w.answers w'.answers (answer ∷ []) → DrawsKnown w.words w'.words (word ∷ [])
+      → Cause end (here old h w n) w' (record { held = takes.text ++ h'.bytes; asked = answer ∷ []; drawn = word ∷ [] }) final → Ends end (here old h w n) w' final
+  ended end final answer word asks draws cause = record {
+    since = record { held = takes.text ++ h'.bytes; asked = answer ∷ []; drawn = word ∷ [] };
+    read = read_since;
+    clock = asks;
+    draws = draws;
+    cause = cause;
+  }
 
   -- the request was taken, and its reply not written whole
-  pub fails : (end : End) → Takes h h' w.left w'.left body → ReplyFails old new w.answers w'.answers w.written w'.written body end → Stops (here old h w) w' end
-  unfolding turn_here
-  fails WriteFault takes failed n below = (
-    new,
-    record {
-      held = takes.0 ++ h'.bytes;
-      read = consumes_trans (stream h w.left) (stream h' w'.left) w'.left takes.0 h'.bytes takes.2 (consumes_held h'.bytes w'.left);
-      asked = failed.1.answer ∷ [];
-      clock = failed.1.asked;
-      cause = inl (record {
-        turn = turn_here takes failed.1;
-        mid = here new h' w' (n + 1);
-        begun = begins takes failed.1 n below;
-        more = h'.bytes;
-        read = refl;
-        once = refl;
-        written = failed.2;
-        stands = refl;
-      });
-    },
-  )
-  fails OutOfMemory takes failed n below = (
-    old,
-    record {
-      held = takes.0 ++ h'.bytes;
-      read = consumes_trans (stream h w.left) (stream h' w'.left) w'.left takes.0 h'.bytes takes.2 (consumes_held h'.bytes w'.left);
-      asked = failed.0 ∷ [];
-      clock = failed.1;
-      cause = (omega arith, failed.2, refl);
-    },
-  )
-  fails Done takes failed n below = absurd failed
-  fails ReadFault takes failed n below = absurd failed
-  fails Malformed takes failed n below = absurd failed
-  fails TurnLimit takes failed n below = absurd failed
+  pub fails_now : (end : End) (final : Final) → ReplyFails old w w' raw end final → Ends end (here old h w n) w' final
+  fails_now ends.WriteFault final (answer, word, asks, draws, inl (new, reply, answers, written, is)) =
+      ended ends.WriteFault final answer word asks draws (inl (turn_of takes.text raw answer word answers.0 reply, here new h' w' (n + 1), answers_one new answer word reply asks draws answers, written, is))
+  fails_now ends.WriteFault final (answer, word, asks, draws, inr (inl (new, reply, answers, differs, written, is))) =
+      ended ends.WriteFault final answer word asks draws (inr (inr (inl (here new h' w' (n + 1), loses new answer word reply asks draws answers differs, written, is))))
+  fails_now ends.WriteFault final (answer, word, asks, draws, inr (inr (new, reply, answers, differs, written, is))) =
+      ended ends.WriteFault final answer word asks draws (inr (inr (inr (here new h' w' (n + 1), loses new answer word reply asks draws answers differs, written, is))))
+  fails_now ends.DiskFault final (answer, word, asks, draws, (new, reply, answers, differs, written, is)) =
+      ended ends.DiskFault final answer word asks draws (here new h' w' (n + 1), loses new answer word reply asks draws answers differs, written, is)
+  fails_now ends.JournalFull final (answer, word, asks, draws, (new, reply, answers, differs, written, is)) =
+      ended ends.JournalFull final answer word asks draws (here new h' w' (n + 1), loses new answer word reply asks draws answers differs, written, is)
+  fails_now ends.OutOfMemory final (answer, word, asks, draws, (unwritten, is)) =
+      ended ends.OutOfMemory final answer word asks draws (omega arith, omega arith, unwritten, is)
+  fails_now ends.WordsFault final (answer, asks, draws, unwritten, is) = record {
+    since = record { held = takes.text ++ h'.bytes; asked = answer ∷ []; drawn = [] };
+    read = read_since;
+    clock = asks;
+    draws = draws;
+    cause = record {
+      limit = below;
+      text = takes.text;
+      raw = raw;
+      spelled = takes.request;
+      more = h'.bytes;
+      read = refl;
+      asked = refl;
+      undrawn = refl;
+      unwritten = unwritten;
+      same = is;
+    };
+  }
+  fails_now ends.Done final fails = absurd fails.4
+  fails_now ends.ReadFault final fails = absurd fails.4
+  fails_now ends.Malformed final fails = absurd fails.4
+  fails_now ends.TurnLimit final fails = absurd fails.4
 
-module _ (old : List Entry) (h h' : Held) (w : World) (left' written' : Option (List ℕ)) where
-  -- the stream begins with no request
-  pub malformed : (end : End) (at : ℕ) (reply : Reply) → reply ≡ refusal_reply old (BadHttp at) → Refuses h h' w.left left' (http.BadHttp at) → RefusalEnds reply w.written written' end → Stops (here old h w) (record { left = left'; answers = w.answers; written = written' }) end
-  malformed Malformed at reply is refuses ends n below = (
-    old,
-    record {
-      held = h'.bytes;
-      read = stays_read h h' w.left left' refuses.0;
-      asked = [];
-      clock = asks_none w.answers;
-      cause = ((below, refuses.2), refl, subst (λ (r : Reply). Appends w.written written' (printed r)) (is ∙ ap (λ (k : ℕ). refusal_reply old (BadHttp k)) refuses.1) ends, refl);
-    },
-  )
-  malformed WriteFault at reply is refuses ends n below = (
-    old,
-    record {
-      held = h'.bytes;
-      read = stays_read h h' w.left left' refuses.0;
-      asked = [];
-      clock = asks_none w.answers;
-      cause = inr ((below, refuses.2), refl, subst (λ (r : Reply). AppendsFront w.written written' (printed r)) (is ∙ ap (λ (k : ℕ). refusal_reply old (BadHttp k)) refuses.1) ends, refl);
-    },
-  )
-  malformed OutOfMemory at reply is refuses ends n below = (
-    old,
-    record {
-      held = h'.bytes;
-      read = stays_read h h' w.left left' refuses.0;
-      asked = [];
-      clock = asks_none w.answers;
-      cause = (omega arith, ends, refl);
-    },
-  )
-  malformed Done at reply is refuses ends n below = absurd ends
-  malformed ReadFault at reply is refuses ends n below = absurd ends
-  malformed TurnLimit at reply is refuses ends n below = absurd ends
+module _ (old : List Entry) (h h' : Held) (w w' : World) (raw : Raw) where
+  pub turns : (new : List Entry) → Takes h h' w.left w'.left raw → Replies old new w w' raw → Turns (here old h w) (here new h' w')
+  turns new takes replies n below = turns_now old h h' w w' raw takes n below new replies
+
+  pub fails : (end : End) (final : Final) → Takes h h' w.left w'.left raw → ReplyFails old w w' raw end final → Stops (here old h w) w' end final
+  fails end final takes failed n below = fails_now old h h' w w' raw takes n below end final failed
+
+-- ---- no request was taken
 
 module _ (old : List Entry) (h h' : Held) (w : World) (left' : Option (List ℕ)) where
-  pub read_fault : Refuses h h' w.left left' http.ReadFault → Stops (here old h w) (record w { left = left' }) ReadFault
-  read_fault refuses n below = (
-    old,
-    record {
-      held = h'.bytes;
-      read = stays_read h h' w.left left' refuses.0;
-      asked = [];
-      clock = asks_none w.answers;
-      cause = (below, refuses.1, record { unasked = refl; unwritten = keeps_same w.written; same = refl });
-    },
-  )
+  -- the stream begins with no request
+  pub refused : (end : End) (written' : Option (List ℕ)) (refusal : Refusal) (reply : Reply) → Stays h h' w.left left' → IsRefusal refusal h.at (stream h w.left) → reply ≡ refusal_reply old refusal → RefusalEnds reply w.written written' end
+      → Stops (here old h w) (record { left = left'; answers = w.answers; words = w.words; written = written' }) end (settled old)
+  refused ends.Malformed written' refusal reply same is told written n below = record {
+    since = record { held = h'.bytes; asked = []; drawn = [] };
+    read = stays_read h h' w.left left' same;
+    clock = asks_none w.answers;
+    draws = draws_none w.words;
+    cause = (refusal, below, is, refl, refl, subst (λ (r : Reply). Appends w.written written' (printed r)) told written, refl);
+  }
+  refused ends.WriteFault written' refusal reply same is told written n below = record {
+    since = record { held = h'.bytes; asked = []; drawn = [] };
+    read = stays_read h h' w.left left' same;
+    clock = asks_none w.answers;
+    draws = draws_none w.words;
+    cause = inr (inl (refusal, below, is, refl, refl, subst (λ (r : Reply). AppendsFront w.written written' (printed r)) told written, refl));
+  }
+  refused ends.OutOfMemory written' refusal reply same is told written n below = record {
+    since = record { held = h'.bytes; asked = []; drawn = [] };
+    read = stays_read h h' w.left left' same;
+    clock = asks_none w.answers;
+    draws = draws_none w.words;
+    cause = (omega arith, omega arith, written, refl);
+  }
+  refused ends.Done written' refusal reply same is told written n below = absurd written
+  refused ends.ReadFault written' refusal reply same is told written n below = absurd written
+  refused ends.DiskFault written' refusal reply same is told written n below = absurd written
+  refused ends.JournalFull written' refusal reply same is told written n below = absurd written
+  refused ends.WordsFault written' refusal reply same is told written n below = absurd written
+  refused ends.TurnLimit written' refusal reply same is told written n below = absurd written
 
-  pub no_memory : Refuses h h' w.left left' http.Memory → Stops (here old h w) (record w { left = left' }) OutOfMemory
-  no_memory refuses n below = (
-    old,
-    record {
-      held = h'.bytes;
-      read = stays_read h h' w.left left' refuses;
-      asked = [];
-      clock = asks_none w.answers;
-      cause = (omega arith, keeps_same w.written, refl);
-    },
-  )
+  pub read_fault : Stays h h' w.left left' → BeginsWithNoRequest h'.bytes → Stops (here old h w) (record w { left = left' }) ends.ReadFault (settled old)
+  read_fault same none n below = record {
+    since = record { held = h'.bytes; asked = []; drawn = [] };
+    read = stays_read h h' w.left left' same;
+    clock = asks_none w.answers;
+    draws = draws_none w.words;
+    cause = (below, none, record { unasked = refl; undrawn = refl; unwritten = keeps_same w.written; same = refl });
+  }
 
-pub takes_short : (h h' : Held) (left left' : Option (List ℕ)) (body : List ℕ) → Takes h h' left left' body → h'.at ≤ h.at + 66000
-takes_short h h' left left' body takes = omega (arith, takes.3, request_short takes.0 body takes.1)
+  pub no_memory : Stays h h' w.left left' → Stops (here old h w) (record w { left = left' }) ends.OutOfMemory (settled old)
+  no_memory same n below = record {
+    since = record { held = h'.bytes; asked = []; drawn = [] };
+    read = stays_read h h' w.left left' same;
+    clock = asks_none w.answers;
+    draws = draws_none w.words;
+    cause = (omega arith, omega arith, keeps_same w.written, refl);
+  }
+
+  pub stream_ended : HasEnded h h' w.left left' → Stops (here old h w) (record w { left = left' }) ends.Done (settled old)
+  stream_ended (same, blank, end) n below = record {
+    since = record { held = h'.bytes; asked = []; drawn = [] };
+    read = stays_read h h' w.left left' same;
+    clock = asks_none w.answers;
+    draws = draws_none w.words;
+    cause = (below, blank, end, record { unasked = refl; undrawn = refl; unwritten = keeps_same w.written; same = refl });
+  }
+
+pub takes_short : (h h' : Held) (left left' : Option (List ℕ)) (raw : Raw) → Takes h h' left left' raw → h'.at ≤ h.at + 81920
+takes_short h h' left left' raw takes = omega (arith, takes.at, takes.limit)

@@ -1,18 +1,18 @@
 -- A session over a stream that is told: what is written follows from what is read.
-use Rattle.std.proofs.Common.{◌≡◌, ℕ, ◌+◌, ◌++◌, List, [], ◌∷◌, length, Some, None, refl, sym, ap, ◌∙◌, append_assoc, arith, length-append, ◌⊎◌, inl, inr}
+use Rattle.std.proofs.Common.{◌≡◌, ℕ, ◌+◌, ◌++◌, List, [], ◌∷◌, length, Some, None, refl, sym, ap, subst, ◌∙◌, append_assoc, arith, length-append, ◌⊎◌, inl, inr}
 use Rattle.std.proofs.lemmas.List.{append-nil}
 use Rattle.std.specs.declared.option.Option.{Option}
 use Rattle.std.specs.Io.KnownBytes.{Consumes, Appends, Keeps}
 use Rattle.op_model.specs.Printed.{printed}
-use Rattle.op_model.specs.Program.{Applies, code_of}
-use Rattle.op_model.specs.Session.{Session, fresh, texts, replies, refusal_behind, IsComplete}
-use Rattle.op_model.specs.Stream.{IsMalformed}
+use Rattle.op_model.specs.Program.{code_of}
+use Rattle.op_model.specs.Requests.{IsEnded}
+use Rattle.op_model.specs.Session.{Final, Session, begun, texts, replies, IsComplete, IsRefusal, settled}
 use Rattle.op_model.specs.Turn.{Standing, Turn, Run, refusal_reply}
 use Rattle.op_model.specs.World.{World}
 use Rattle.op_model.specs.declared.act.Entry.{Entry}
 use Rattle.op_model.specs.declared.end.End.{End}
-use Rattle.op_model.specs.declared.end.End.TheVariants.{Done, ReadFault, WriteFault, OutOfMemory, Malformed, TurnLimit}
-use Rattle.op_model.specs.declared.reply.Refusal.TheVariants.{BadHttp}
+use Rattle.op_model.specs.declared.end.End.TheVariants as ends
+use Rattle.op_model.specs.declared.reply.Refusal.{Refusal}
 
 -- ---- steps of a stream that is told
 
@@ -63,8 +63,9 @@ run_reads (turn ∷ turns) first last bytes old (mid, is, run) l w =
       count = omega (arith, more.count, is.begun.counted);
     }
 
-nothing_left : (held ys rest : List ℕ) → held ≡ [] → ys ≡ [] → rest ≡ held ++ ys → rest ≡ []
-nothing_left held ys rest p q e = e ∙ rw (p, q) refl
+-- what was read last is all that was left
+all_held : (held ys rest : List ℕ) → ys ≡ [] → rest ≡ held ++ ys → held ≡ rest
+all_held held ys rest q e = sym (e ∙ (ap (λ (k : List ℕ). held ++ k) q ∙ append-nil held))
 
 -- nothing stands behind the replies
 nothing_behind : (new : Option (List ℕ)) (old replied : List ℕ) → new ≡ Some (old ++ replied) → new ≡ Some (old ++ (replied ++ []))
@@ -72,55 +73,62 @@ nothing_behind new old replied e = e ∙ ap (λ (k : List ℕ). Some (old ++ k))
 
 -- ---- a whole session
 
-pub complete : (before after : World) (end : End) (final : List Entry) (s : Session (fresh before) after end final) (bytes old : List ℕ) → before.left ≡ Some bytes → before.written ≡ Some old → IsComplete end s.turns final bytes old after.written
-complete before after Done final s bytes old l w =
-    let r = run_reads s.turns (fresh before) s.last bytes old s.run l w in
-    let cause = s.ends.cause in
-    let end = consumes_told s.last.world.left after.left s.ends.held r.rest r.left s.ends.read in
-    let empty : end.0 ≡ [] = rw end.1 at cause.2 in
-    record {
-      read = r.read ∙ ap (λ (k : List ℕ). texts s.turns ++ k) (nothing_left s.ends.held end.0 r.rest cause.1 empty end.2);
-      written = nothing_behind after.written old (replies s.turns) (keeps_told s.last.world.written after.written (old ++ replies s.turns) r.written cause.3.unwritten);
-    }
-complete before after Malformed final s bytes old l w =
-    let r = run_reads s.turns (fresh before) s.last bytes old s.run l w in
-    let cause = s.ends.cause in
-    let malformed : IsMalformed r.rest = rw r.left at cause.0.1 in
-    let at : s.last.at ≡ length (texts s.turns) = omega (arith, r.at) in
-    let same : s.last.history ≡ final = sym cause.3 in (
-      r.rest,
-      malformed,
-      record {
-        read = r.read;
-        written = appends_told s.last.world.written after.written _ (old ++ replies s.turns) r.written cause.2
-            ∙ ap Some (append_assoc old (replies s.turns) (printed (refusal_reply s.last.history (BadHttp s.last.at)))
-            ∙ (ap (λ (n : ℕ). old ++ (replies s.turns ++ printed (refusal_reply s.last.history (BadHttp n)))) at
-            ∙ ap (λ (h : List Entry). old ++ (replies s.turns ++ refusal_behind h s.turns)) same));
-      },
-    )
-complete before after TurnLimit final s bytes old l w =
-    let r = run_reads s.turns (fresh before) s.last bytes old s.run l w in
-    let cause = s.ends.cause in (
-      r.rest,
-      omega (arith, r.count, cause.0),
-      record {
-        read = r.read;
-        written = nothing_behind after.written old (replies s.turns) (keeps_told s.last.world.written after.written (old ++ replies s.turns) r.written cause.1.unwritten);
-      },
-    )
-complete before after ReadFault final s bytes old l w = tt
-complete before after WriteFault final s bytes old l w = tt
-complete before after OutOfMemory final s bytes old l w = tt
+module _ (before after : World) (first : List Entry) (final : Final) where
+  pub complete : (end : End) (s : Session (begun first before) after end final) (bytes old : List ℕ) → before.left ≡ Some bytes → before.written ≡ Some old → IsComplete end s.turns final bytes old after.written
+  complete ends.Done s bytes old l w =
+      let r = run_reads s.turns (begun first before) s.last bytes old s.run l w in
+      let cause = s.ends.cause in
+      let end = consumes_told s.last.world.left after.left s.ends.since.held r.rest r.left s.ends.read in
+      let empty : end.0 ≡ [] = rw end.1 at cause.2 in (
+        r.rest,
+        subst IsEnded (all_held s.ends.since.held end.0 r.rest empty end.2) cause.1,
+        record {
+          read = r.read;
+          written = nothing_behind after.written old (replies s.turns) (keeps_told s.last.world.written after.written (old ++ replies s.turns) r.written cause.3.unwritten);
+        },
+      )
+  complete ends.Malformed s bytes old l w =
+      let r = run_reads s.turns (begun first before) s.last bytes old s.run l w in
+      let cause = s.ends.cause in
+      let refusal : Refusal = cause.0 in
+      let at : s.last.at ≡ length (texts s.turns) = omega (arith, r.at) in
+      let same : s.last.history ≡ final.stands = sym (ap (λ (f : Final). f.stands) cause.6) in (
+        r.rest,
+        refusal,
+        subst (λ (n : ℕ). IsRefusal refusal n (Some r.rest)) at (subst (λ (left : Option (List ℕ)). IsRefusal refusal s.last.at left) r.left cause.2),
+        record {
+          read = r.read;
+          written = appends_told s.last.world.written after.written _ (old ++ replies s.turns) r.written cause.5
+              ∙ ap Some (append_assoc old (replies s.turns) (printed (refusal_reply s.last.history refusal))
+              ∙ ap (λ (h : List Entry). old ++ (replies s.turns ++ printed (refusal_reply h refusal))) same);
+        },
+      )
+  complete ends.TurnLimit s bytes old l w =
+      let r = run_reads s.turns (begun first before) s.last bytes old s.run l w in
+      let cause = s.ends.cause in (
+        r.rest,
+        omega (arith, r.count, cause.0),
+        record {
+          read = r.read;
+          written = nothing_behind after.written old (replies s.turns) (keeps_told s.last.world.written after.written (old ++ replies s.turns) r.written cause.1.unwritten);
+        },
+      )
+  complete ends.ReadFault s bytes old l w = tt
+  complete ends.WriteFault s bytes old l w = tt
+  complete ends.OutOfMemory s bytes old l w = tt
+  complete ends.DiskFault s bytes old l w = tt
+  complete ends.JournalFull s bytes old l w = tt
+  complete ends.WordsFault s bytes old l w = tt
 
--- what the program promises of it
-pub applies : (before after : World) (end : End) (final : List Entry) (code : ℕ) → code ≡ code_of end → Session (fresh before) after end final → Applies before after code
-applies before after end final code e s = record { end = end; final = final; session = s; status = e; complete = complete before after end final s }
-
--- an end that is no fault, no want of memory and not the limit
-pub ends_well : (end : End) → (end ≡ ReadFault → ⊥) → (end ≡ WriteFault → ⊥) → (end ≡ OutOfMemory → ⊥) → (end ≡ TurnLimit → ⊥) → (code_of end ≡ 0) ⊎ (code_of end ≡ 10)
-ends_well Done r w m t = inl refl
-ends_well Malformed r w m t = inr refl
-ends_well ReadFault r w m t = absurd (r refl)
-ends_well WriteFault r w m t = absurd (w refl)
-ends_well OutOfMemory r w m t = absurd (m refl)
-ends_well TurnLimit r w m t = absurd (t refl)
+-- an end that is no fault, no want of memory or of room, and not the limit
+pub ends_well : (end : End) → (end ≡ ends.ReadFault → ⊥) → (end ≡ ends.WriteFault → ⊥) → (end ≡ ends.DiskFault → ⊥) → (end ≡ ends.WordsFault → ⊥) → (end ≡ ends.JournalFull → ⊥) → (end ≡ ends.OutOfMemory → ⊥) → (end ≡ ends.TurnLimit → ⊥)
+    → (code_of end ≡ 0) ⊎ (code_of end ≡ 10)
+ends_well ends.Done r w d x f m t = inl refl
+ends_well ends.Malformed r w d x f m t = inr refl
+ends_well ends.ReadFault r w d x f m t = absurd (r refl)
+ends_well ends.WriteFault r w d x f m t = absurd (w refl)
+ends_well ends.DiskFault r w d x f m t = absurd (d refl)
+ends_well ends.WordsFault r w d x f m t = absurd (x refl)
+ends_well ends.JournalFull r w d x f m t = absurd (f refl)
+ends_well ends.OutOfMemory r w d x f m t = absurd (m refl)
+ends_well ends.TurnLimit r w d x f m t = absurd (t refl)

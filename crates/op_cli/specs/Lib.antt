@@ -1,8 +1,4 @@
-pub mod Body
-pub mod Held
-pub mod Print
-pub mod Reader
-pub mod Reading
+pub mod Applies
+pub mod Kept
 pub mod Told
 pub mod Turns
-pub mod Wallet

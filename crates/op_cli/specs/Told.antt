@@ -4,6 +4,6 @@ use Rattle.std.specs.declared.option.Option.{Option}
 use Rattle.op_model.specs.World.{World}
 use Rattle.op_cli.specs.declared.outside.Outside.{Outside}
 
-abbrev pub world_of : {S K C : Type 0} → (S → Option (List ℕ)) → (C → Option (List ℕ)) → (K → Option (List ℕ)) → Outside S K C → World
-world_of left answers written outside =
-    record { left = left outside.source; answers = answers outside.clock; written = written outside.sink }
+abbrev pub world_of : {D S K C W : Type 0} → (S → Option (List ℕ)) → (C → Option (List ℕ)) → (W → Option (List (List ℕ))) → (K → Option (List ℕ)) → Outside D S K C W → World
+world_of left answers words written outside =
+    record { left = left outside.source; answers = answers outside.clock; words = words outside.draws; written = written outside.sink }

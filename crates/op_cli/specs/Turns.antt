@@ -1,20 +1,27 @@
 -- The parts of a turn.
-use Rattle.std.specs.Prelude.{◌+◌, ◌<◌, ℕ, List, [], ◌∷◌}
+use Rattle.std.specs.Prelude.{◌≡◌, ◌≢◌, ◌⊎◌, ◌+◌, ◌<◌, ℕ, Bool, List, [], ◌∷◌}
 use Rattle.std.specs.Io.KnownBytes.{Appends, Keeps}
 use Rattle.std.specs.declared.option.Option.{Option}
+use Rattle.std.specs.declared.result.Result.{Result}
+use Rattle.op_http.specs.Held.{Held}
+use Rattle.op_http.specs.Reader.{stream}
 use Rattle.op_ports.specs.Clock.{AsksKnown}
 use Rattle.op_ports.specs.Sink.{AppendsFront}
+use Rattle.op_ports.specs.Words.{DrawsKnown}
+use Rattle.op_model.specs.History.{moment_of_turn}
+use Rattle.op_model.specs.Meant.{meant}
 use Rattle.op_model.specs.Printed.{printed}
-use Rattle.op_model.specs.Session.{Ends}
-use Rattle.op_model.specs.Turn.{Standing, Turn, IsTurn, turn_limit}
+use Rattle.op_model.specs.Requests.{Raw}
+use Rattle.op_model.specs.Session.{Final, Ends, Writing, settled}
+use Rattle.op_model.specs.Turn.{Standing, Turn, IsTurn, IsReplied, turn_limit, refusal_reply}
 use Rattle.op_model.specs.World.{World}
 use Rattle.op_model.specs.declared.act.Entry.{Entry}
 use Rattle.op_model.specs.declared.end.End.{End}
-use Rattle.op_model.specs.declared.end.End.TheVariants.{Done, ReadFault, WriteFault, OutOfMemory, Malformed, TurnLimit}
+use Rattle.op_model.specs.declared.end.End.TheVariants as ends
 use Rattle.op_model.specs.declared.reply.Reply.{Reply}
-use Rattle.op_cli.specs.Held.{Held}
-use Rattle.op_cli.specs.Reader.{stream}
-use Rattle.op_cli.specs.Wallet.{Answers}
+use Rattle.op_model.specs.declared.reply.Refusal.{Refusal}
+use Rattle.op_model.specs.declared.reply.Refusal.TheVariants.{DiskFault, JournalFull}
+use Rattle.op_model.specs.declared.request.Request.{Request}
 
 -- where a session stands: what the reader holds is still to be read
 abbrev pub here : List Entry → Held → World → ℕ → Standing
@@ -26,36 +33,74 @@ abbrev pub Turns : (old new : ℕ → Standing) → Type 0
 Turns old new = (n : ℕ) → n < turn_limit → (turn : Turn) × IsTurn (old n) turn (new (n + 1))
 
 -- from each count of requests below the limit, the session ends
-abbrev pub Stops : (old : ℕ → Standing) → World → End → Type 0
-Stops old after end = (n : ℕ) → n < turn_limit → (final : List Entry) × Ends end (old n) after final
+abbrev pub Stops : (old : ℕ → Standing) → World → End → Final → Type 0
+Stops old after end final = (n : ℕ) → n < turn_limit → Ends end (old n) after final
 
--- the clock is asked once, and the body has its reply at that moment
-pub record AnswersNow (old new : List Entry) (told left : Option (List ℕ)) (body : List ℕ) (reply : Reply) : Type 0 where
-  pub answer : ℕ
-  pub asked : AsksKnown told left (answer ∷ [])
-  pub answered : Answers old answer body reply new
+-- ---- one request, once it was read
+
+-- a turn with these parts
+abbrev pub turn_of : (text : List ℕ) → Raw → ℕ → List ℕ → Bool → Reply → Turn
+turn_of text raw answer word wanted reply =
+    record { text = text; raw = raw; answer = answer; word = word; wanted_memory = wanted; reply = reply }
+
+-- what was meant has its reply in a turn at which the clock gave this answer and this word was drawn
+abbrev pub Answers : (old : List Entry) → (answer : ℕ) (word : List ℕ) → Result Request Refusal → Reply → (new : List Entry) → Type 0
+Answers old answer word asked reply new =
+    (wanted : Bool) × ((text : List ℕ) (raw : Raw) → IsReplied old (turn_of text raw answer word wanted reply) asked new)
+
+-- ---- what was meant, its reply, and how that is written
 
 -- the reply is written
-abbrev pub Replies : (old new : List Entry) (told left written written' : Option (List ℕ)) → List ℕ → Type 0
-Replies old new told left written written' body =
-    (reply : Reply) × AnswersNow old new told left body reply × Appends written written' (printed reply)
+abbrev pub Told : (old new : List Entry) (written written' : Option (List ℕ)) → ℕ → List ℕ → Result Request Refusal → Type 0
+Told old new written written' answer word asked =
+    (reply : Reply) × Answers old answer word asked reply new × Appends written written' (printed reply)
 
--- why it is not
-abbrev pub ReplyFails : (old new : List Entry) (told left written written' : Option (List ℕ)) → List ℕ → End → Type 0
-ReplyFails old new told left written written' body WriteFault =
-    (reply : Reply) × AnswersNow old new told left body reply × AppendsFront written written' (printed reply)
-ReplyFails old new told left written written' body OutOfMemory =
-    (answer : ℕ) × AsksKnown told left (answer ∷ []) × Keeps written written'
-ReplyFails old new told left written written' body Done = ⊥
-ReplyFails old new told left written written' body ReadFault = ⊥
-ReplyFails old new told left written written' body Malformed = ⊥
-ReplyFails old new told left written written' body TurnLimit = ⊥
+-- some of it is written
+abbrev pub CutShort : (old : List Entry) (written written' : Option (List ℕ)) → ℕ → List ℕ → Result Request Refusal → Final → Type 0
+CutShort old written written' answer word asked final =
+    (new : List Entry) × (reply : Reply) × Answers old answer word asked reply new × AppendsFront written written' (printed reply) × (final ≡ settled new)
+
+-- the round failed on the disk, or had no room in the journal, and that is written
+abbrev pub Lost : Writing → Refusal → (old : List Entry) (written written' : Option (List ℕ)) → ℕ → List ℕ → Result Request Refusal → (List Entry → Final) → Final → Type 0
+Lost writes refusal old written written' answer word asked left final =
+    (new : List Entry) × (reply : Reply) × Answers old answer word asked reply new × (new ≢ old)
+    × writes written written' (printed (refusal_reply old refusal)) × (final ≡ left new)
+
+abbrev pub tried_after : (old new : List Entry) → Final
+tried_after old new = record { stands = old; tried = new }
+
+-- why the reply is not written whole
+abbrev pub NotTold : (old : List Entry) (written written' : Option (List ℕ)) → ℕ → List ℕ → Result Request Refusal → End → Final → Type 0
+NotTold old written written' answer word asked ends.WriteFault final =
+    CutShort old written written' answer word asked final
+    ⊎ Lost AppendsFront DiskFault old written written' answer word asked (tried_after old) final
+    ⊎ Lost AppendsFront JournalFull old written written' answer word asked (λ new. settled old) final
+NotTold old written written' answer word asked ends.DiskFault final = Lost Appends DiskFault old written written' answer word asked (tried_after old) final
+NotTold old written written' answer word asked ends.JournalFull final = Lost Appends JournalFull old written written' answer word asked (λ new. settled old) final
+NotTold old written written' answer word asked ends.OutOfMemory final = Keeps written written' × (final ≡ settled old)
+NotTold old written written' answer word asked _ final = ⊥
+
+-- ---- the same, once the clock was asked and a word was drawn
+
+abbrev pub Replies : (old new : List Entry) (w w' : World) → Raw → Type 0
+Replies old new w w' raw = (answer : ℕ) × (word : List ℕ) × AsksKnown w.answers w'.answers (answer ∷ []) × DrawsKnown w.words w'.words (word ∷ [])
+    × Told old new w.written w'.written answer word (meant raw)
+
+abbrev pub ReplyFails : (old : List Entry) (w w' : World) → Raw → End → Final → Type 0
+ReplyFails old w w' raw ends.WordsFault final = (answer : ℕ) × AsksKnown w.answers w'.answers (answer ∷ []) × DrawsKnown w.words w'.words []
+    × Keeps w.written w'.written × (final ≡ settled old)
+ReplyFails old w w' raw end final = (answer : ℕ) × (word : List ℕ) × AsksKnown w.answers w'.answers (answer ∷ []) × DrawsKnown w.words w'.words (word ∷ [])
+    × NotTold old w.written w'.written answer word (meant raw) end final
+
+-- a reply that is no act's is not written whole
+abbrev pub NotWritten : Reply → (written written' : Option (List ℕ)) → End → Type 0
+NotWritten reply written written' ends.WriteFault = AppendsFront written written' (printed reply)
+NotWritten reply written written' ends.OutOfMemory = Keeps written written'
+NotWritten reply written written' _ = ⊥
 
 -- the last refusal is written, in part or whole
 abbrev pub RefusalEnds : Reply → (written written' : Option (List ℕ)) → End → Type 0
-RefusalEnds reply written written' Malformed = Appends written written' (printed reply)
-RefusalEnds reply written written' WriteFault = AppendsFront written written' (printed reply)
-RefusalEnds reply written written' OutOfMemory = Keeps written written'
-RefusalEnds reply written written' Done = ⊥
-RefusalEnds reply written written' ReadFault = ⊥
-RefusalEnds reply written written' TurnLimit = ⊥
+RefusalEnds reply written written' ends.Malformed = Appends written written' (printed reply)
+RefusalEnds reply written written' ends.WriteFault = AppendsFront written written' (printed reply)
+RefusalEnds reply written written' ends.OutOfMemory = Keeps written written'
+RefusalEnds reply written written' _ = ⊥

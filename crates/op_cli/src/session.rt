@@ -1,24 +1,57 @@
-//! Sessions: requests from a source, replies to a sink.
-ghost use Rattle.std.specs.Prelude.{◌≡◌, ◌≢◌, ◌<◌, ◌≤◌, ◌+◌, ◌^◌, ℕ, List, [], IsTrue, Err, OnOk, IfErr};
+//! Sessions: requests from a source, replies to a sink, and what was answered in a journal.
+ghost use Rattle.std.specs.Prelude.{◌≡◌, ◌≢◌, ◌⊎◌, ◌<◌, ◌≤◌, ◌+◌, ◌^◌, ℕ, List, IsTrue, IsSome, Ok, Err, OnOk, OnErr, IfErr};
+ghost use Rattle.std.specs.Io.KnownBytes.{Appends};
 ghost use Rattle.op_causes.specs.Causes.{Rose};
-ghost use Rattle.op_model.specs.Printed.{is_built};
-ghost use Rattle.op_model.specs.Session.{Session, fresh};
-ghost use Rattle.op_model.specs.declared.act.Entry.{Entry};
-ghost use Rattle.op_model.specs.declared.end.End.TheVariants.{ReadFault, WriteFault};
+ghost use Rattle.op_desk.specs.Built.{is_built_request};
+ghost use Rattle.op_desk.specs.Spelling.{Spells};
+ghost use Rattle.op_desk.specs.Wallets.{IsSound};
+ghost use Rattle.op_model.specs.Legal.{keeps_forms};
+ghost use Rattle.op_model.specs.Meant.{meant};
+ghost use Rattle.op_model.specs.Printed.{is_built, is_built_refusal, printed};
+ghost use Rattle.op_model.specs.Session.{Final, Session, begun, settled};
+ghost use Rattle.op_model.specs.Turn.{nobody, refusal_reply};
+ghost use Rattle.op_model.specs.declared.end.End.TheVariants.{ReadFault, WriteFault, DiskFault, WordsFault};
+ghost use Rattle.op_ports.specs.Sink.{AppendsFront};
+ghost use Rattle.op_cli.specs.Kept.{history_at, IsReady, Leaves, Kept};
 ghost use Rattle.op_cli.specs.Told.{world_of};
-ghost use Rattle.op_cli.specs.Turns.{here, Turns, Stops, Replies, ReplyFails, RefusalEnds};
+ghost use Rattle.op_cli.specs.Turns.{here, Turns, Stops, Told, NotTold, NotWritten, Replies, ReplyFails, RefusalEnds};
 
 use crate::outside::Outside;
-use crate::print::print_reply;
-use crate::reader::{HttpFault, RawRequest, Reader};
-use crate::wallet::Wallet;
-use crate::write::write_all;
-use op_model::{End, Refusal, Reply};
-use op_ports::{Clock, Sink, Source};
+use op_api::{ApiFault, disk_fault_reply, journal_full_reply, prepare, print_reply};
+use op_desk::{Desk, RoundFault};
+use op_disk::Disk;
+use op_http::{HttpFault, RawRequest, Reader, write_all};
+use op_model::{End, Refusal, Reply, Request, Task, Verdict, Word};
+use op_ports::{Clock, Sink, Source, Words};
+use op_time::Moment;
 use std::alloc::Global;
 
 /// The most requests of one session.
 const TURN_LIMIT: u64 = 1_000_000_000;
+
+/// Who asks is not looked at yet.
+fn nobody() -> Verdict
+    ensures { result ≡ nobody }
+{
+    Verdict {
+        client: None,
+        proved: false,
+        token: None,
+    }
+}
+
+/// Writes a reply after which the session ends so, unless the write fails.
+fn write_last<K: Sink>(sink: &mut K, text: &[u8], end: End) -> End
+    ensures end { ((result ≡ end) × Appends (K.written sink.old) (K.written sink.new) text.now)
+        ⊎ ((result ≡ WriteFault) × AppendsFront (K.written sink.old) (K.written sink.new) text.now) }
+    ensures cause { (result ≡ WriteFault) → (end ≢ WriteFault) → Rose (K.faults sink.old) (K.faults sink.new) }
+    ensures kept { result ≢ WriteFault → K.faults sink.new ≡ K.faults sink.old }
+{
+    match write_all(sink, text) {
+        Ok(()) => end,
+        Err(_) => End::WriteFault,
+    }
+}
 
 /// Writes the last refusal.
 fn refuse<K: Sink>(alloc: Global, reply: &Reply, sink: &mut K) -> End
@@ -28,87 +61,223 @@ fn refuse<K: Sink>(alloc: Global, reply: &Reply, sink: &mut K) -> End
     ensures kept { result ≢ WriteFault → K.faults sink.new ≡ K.faults sink.old }
 {
     match print_reply(alloc, reply) {
-        Ok(text) => match write_all(sink, &text) {
-            Ok(()) => End::Malformed,
-            Err(_) => End::WriteFault,
-        },
+        Ok(text) => write_last(sink, &text, End::Malformed),
         Err(_) => End::OutOfMemory,
     }
 }
 
-/// Answers a request, and writes the reply.
-fn reply_to<K: Sink, C: Clock>(
+/// Writes the text of a reply after which the session goes on.
+fn write_reply<K: Sink>(sink: &mut K, text: &[u8]) -> Result<(), End>
+    ensures ok { OnOk result (Appends (K.written sink.old) (K.written sink.new) text.now) }
+    ensures err { IfErr result (λ end. (end ≡ WriteFault) × AppendsFront (K.written sink.old) (K.written sink.new) text.now) }
+    ensures cause { OnErr result (Rose (K.faults sink.old) (K.faults sink.new)) }
+    ensures kept { OnOk result (K.faults sink.new ≡ K.faults sink.old) }
+{
+    match write_all(sink, text) {
+        Ok(()) => Ok(()),
+        Err(_) => Err(End::WriteFault),
+    }
+}
+
+/// Runs a round of this one request, and writes its reply once its act stands.
+fn run_round<D: Disk, K: Sink>(
     alloc: Global,
-    request: &RawRequest,
-    wallet: &mut Wallet,
-    clock: &mut C,
+    request: Request,
+    answer: u64,
+    word: &Word,
+    desk: &mut Desk,
+    disk: &mut D,
     sink: &mut K,
 ) -> Result<(), End>
-    ensures ok { OnOk result (Replies wallet.old wallet.new (C.answers clock.old) (C.answers clock.new) (K.written sink.old) (K.written sink.new) request.now) }
-    ensures err { IfErr result (ReplyFails wallet.old wallet.new (C.answers clock.old) (C.answers clock.new) (K.written sink.old) (K.written sink.new) request.now) }
+    requires ready { IsReady D.tells desk.old (D.seen disk.old) (D.images disk.old) }
+    requires built { IsTrue (is_built_request request) }
+    requires forms { IsTrue (keeps_forms request) }
+
+    ensures ok { OnOk result (Told (history_at desk.old) (history_at desk.new) (K.written sink.old) (K.written sink.new) answer word.now (Ok request)) }
+    ensures ready { OnOk result (IsReady D.tells desk.new (D.seen disk.new) (D.images disk.new)) }
+    ensures stands { OnOk result (Leaves D.tells D.moment D.since D.images D.faults (history_at desk.old) (settled (history_at desk.new)) disk.old disk.new) }
+    ensures err { IfErr result (λ end. (final : Final) × NotTold (history_at desk.old) (K.written sink.old) (K.written sink.new) answer word.now (Ok request) end final
+        × Leaves D.tells D.moment D.since D.images D.faults (history_at desk.old) final disk.old disk.new) }
+    ensures disk_cause { result ≡ Err DiskFault → Rose (D.faults disk.old) (D.faults disk.new) }
+    ensures disk_kept { result ≢ Err DiskFault → result ≢ Err WriteFault → D.faults disk.new ≡ D.faults disk.old }
+    ensures write_cause { result ≡ Err WriteFault → Rose (K.faults sink.old) (K.faults sink.new) }
+    ensures write_kept { result ≢ Err WriteFault → K.faults sink.new ≡ K.faults sink.old }
+{
+    let t = desk.wallet().last().later(Moment::at_most_last(answer));
+    let Ok(mut batch) = desk.begin(alloc, t, 1) else {
+        return Err(End::OutOfMemory);
+    };
+    let task = Task::Ask {
+        request,
+        verdict: nobody(),
+    };
+    let reply = batch.act(word, 0, &task);
+    let Ok(text) = print_reply(alloc, &reply) else {
+        return Err(End::OutOfMemory);
+    };
+    match desk.close_round(disk, batch) {
+        Ok(_) => write_reply(sink, &text),
+        Err(RoundFault::DiskFault) => Err(write_last(sink, disk_fault_reply(), End::DiskFault)),
+        Err(RoundFault::Full { .. }) => {
+            Err(write_last(sink, journal_full_reply(), End::JournalFull))
+        }
+    }
+}
+
+/// Writes the refusal of a request that means none.
+fn refuse_one<K: Sink>(
+    alloc: Global,
+    refusal: Refusal,
+    desk: &Desk,
+    sink: &mut K,
+) -> Result<(), End>
+    requires whole { IsSome desk.now.wallet }
+    requires built { IsTrue (is_built_refusal refusal) }
+    ensures ok { OnOk result (Appends (K.written sink.old) (K.written sink.new) (printed (refusal_reply (history_at desk.now) refusal))) }
+    ensures err { IfErr result (NotWritten (refusal_reply (history_at desk.now) refusal) (K.written sink.old) (K.written sink.new)) }
     ensures cause { result ≡ Err WriteFault → Rose (K.faults sink.old) (K.faults sink.new) }
     ensures kept { result ≢ Err WriteFault → K.faults sink.new ≡ K.faults sink.old }
 {
-    let answer = clock.now();
-    let reply = wallet.answer(alloc, answer, request.body());
+    let reply = desk.wallet().refusal(refusal);
     match print_reply(alloc, &reply) {
-        Ok(text) => match write_all(sink, &text) {
-            Ok(()) => Ok(()),
-            Err(_) => Err(End::WriteFault),
-        },
+        Ok(text) => write_reply(sink, &text),
         Err(_) => Err(End::OutOfMemory),
     }
 }
 
-/// One turn.
-fn turn<S: Source, K: Sink, C: Clock>(
+/// Answers a request, and writes its reply.
+fn answer_one<D: Disk, K: Sink>(
     alloc: Global,
-    reader: &mut Reader,
-    wallet: &mut Wallet,
-    outside: &mut Outside<S, K, C>,
+    raw: &RawRequest,
+    answer: u64,
+    word: &Word,
+    desk: &mut Desk,
+    disk: &mut D,
+    sink: &mut K,
 ) -> Result<(), End>
-    requires { reader.old.at < 2 ^ 60 }
-    ensures ok { OnOk result (Turns (here wallet.old reader.old (world_of S.left C.answers K.written outside.old))
-        (here wallet.new reader.new (world_of S.left C.answers K.written outside.new))) }
-    ensures err { IfErr result (Stops (here wallet.old reader.old (world_of S.left C.answers K.written outside.old))
-        (world_of S.left C.answers K.written outside.new)) }
-    ensures moved { OnOk result (reader.new.at ≤ reader.old.at + 66000) }
-    ensures read_cause { result ≡ Err ReadFault → Rose (S.faults outside.old.source) (S.faults outside.new.source) }
-    ensures read_kept { result ≢ Err ReadFault → S.faults outside.new.source ≡ S.faults outside.old.source }
-    ensures write_cause { result ≡ Err WriteFault → Rose (K.faults outside.old.sink) (K.faults outside.new.sink) }
-    ensures write_kept { result ≢ Err WriteFault → K.faults outside.new.sink ≡ K.faults outside.old.sink }
+    requires ready { IsReady D.tells desk.old (D.seen disk.old) (D.images disk.old) }
+    requires sound { IsSound (history_at desk.old) }
+
+    ensures ok { OnOk result (Told (history_at desk.old) (history_at desk.new) (K.written sink.old) (K.written sink.new) answer word.now (meant raw.now)) }
+    ensures ready { OnOk result (IsReady D.tells desk.new (D.seen disk.new) (D.images disk.new)) }
+    ensures stands { OnOk result (Leaves D.tells D.moment D.since D.images D.faults (history_at desk.old) (settled (history_at desk.new)) disk.old disk.new) }
+    ensures err { IfErr result (λ end. (final : Final) × NotTold (history_at desk.old) (K.written sink.old) (K.written sink.new) answer word.now (meant raw.now) end final
+        × Leaves D.tells D.moment D.since D.images D.faults (history_at desk.old) final disk.old disk.new) }
+    ensures disk_cause { result ≡ Err DiskFault → Rose (D.faults disk.old) (D.faults disk.new) }
+    ensures disk_kept { result ≢ Err DiskFault → result ≢ Err WriteFault → D.faults disk.new ≡ D.faults disk.old }
+    ensures write_cause { result ≡ Err WriteFault → Rose (K.faults sink.old) (K.faults sink.new) }
+    ensures write_kept { result ≢ Err WriteFault → K.faults sink.new ≡ K.faults sink.old }
 {
-    match reader.next(alloc, &mut outside.source) {
-        Ok(Some(request)) => reply_to(
-            alloc,
-            &request,
-            wallet,
-            &mut outside.clock,
-            &mut outside.sink,
-        ),
-        Ok(None) => Err(End::Done),
-        Err(HttpFault::BadHttp { at }) => {
-            let reply = wallet.refusal(Refusal::BadHttp { at });
-            Err(refuse(alloc, &reply, &mut outside.sink))
-        }
-        Err(HttpFault::ReadFault) => Err(End::ReadFault),
-        Err(HttpFault::Memory) => Err(End::OutOfMemory),
+    match prepare(alloc, raw) {
+        Ok(request) => run_round(alloc, request, answer, word, desk, disk, sink),
+        Err(ApiFault::Refused(refusal)) => refuse_one(alloc, refusal, desk, sink),
+        Err(ApiFault::Memory) => refuse_one(alloc, Refusal::Memory, desk, sink),
     }
 }
 
-/// A session over the empty history: requests are answered in order, until it ends.
-pub fn session<S: Source, K: Sink, C: Clock>(alloc: Global, outside: &mut Outside<S, K, C>) -> End
-    ensures session { (final : List Entry) × Session (fresh (world_of S.left C.answers K.written outside.old))
-        (world_of S.left C.answers K.written outside.new) result final }
+/// Asks the clock, draws a word, and answers a request.
+fn reply_to<D: Disk, S: Source, K: Sink, C: Clock, W: Words>(
+    alloc: Global,
+    raw: &RawRequest,
+    desk: &mut Desk,
+    outside: &mut Outside<D, S, K, C, W>,
+) -> Result<(), End>
+    requires ready { IsReady D.tells desk.old (D.seen outside.old.disk) (D.images outside.old.disk) }
+    requires sound { IsSound (history_at desk.old) }
+
+    ensures ok { OnOk result (Replies (history_at desk.old) (history_at desk.new) (world_of S.left C.answers W.words K.written outside.old) (world_of S.left C.answers W.words K.written outside.new) raw.now) }
+    ensures ready { OnOk result (IsReady D.tells desk.new (D.seen outside.new.disk) (D.images outside.new.disk)) }
+    ensures stands { OnOk result (Leaves D.tells D.moment D.since D.images D.faults (history_at desk.old) (settled (history_at desk.new)) outside.old.disk outside.new.disk) }
+    ensures err { IfErr result (λ end. (final : Final) × ReplyFails (history_at desk.old) (world_of S.left C.answers W.words K.written outside.old) (world_of S.left C.answers W.words K.written outside.new) raw.now end final
+        × Leaves D.tells D.moment D.since D.images D.faults (history_at desk.old) final outside.old.disk outside.new.disk) }
+    ensures source { outside.new.source ≡ outside.old.source }
+    ensures no_read_fault { result ≢ Err ReadFault }
+    ensures disk_cause { result ≡ Err DiskFault → Rose (D.faults outside.old.disk) (D.faults outside.new.disk) }
+    ensures disk_kept { result ≢ Err DiskFault → result ≢ Err WriteFault → D.faults outside.new.disk ≡ D.faults outside.old.disk }
+    ensures write_cause { result ≡ Err WriteFault → Rose (K.faults outside.old.sink) (K.faults outside.new.sink) }
+    ensures write_kept { result ≢ Err WriteFault → K.faults outside.new.sink ≡ K.faults outside.old.sink }
+    ensures draw_cause { result ≡ Err WordsFault → Rose (W.faults outside.old.draws) (W.faults outside.new.draws) }
+    ensures draw_kept { result ≢ Err WordsFault → W.faults outside.new.draws ≡ W.faults outside.old.draws }
+{
+    let answer = outside.clock.now();
+    let Ok(word) = outside.draws.draw() else {
+        return Err(End::WordsFault);
+    };
+    answer_one(
+        alloc,
+        raw,
+        answer,
+        &word,
+        desk,
+        &mut outside.disk,
+        &mut outside.sink,
+    )
+}
+
+/// One turn.
+fn turn<D: Disk, S: Source, K: Sink, C: Clock, W: Words>(
+    alloc: Global,
+    reader: &mut Reader,
+    desk: &mut Desk,
+    outside: &mut Outside<D, S, K, C, W>,
+) -> Result<(), End>
+    requires at { reader.old.at < 2 ^ 60 }
+    requires ready { IsReady D.tells desk.old (D.seen outside.old.disk) (D.images outside.old.disk) }
+    requires sound { IsSound (history_at desk.old) }
+
+    ensures ok { OnOk result (Turns (here (history_at desk.old) reader.old (world_of S.left C.answers W.words K.written outside.old))
+        (here (history_at desk.new) reader.new (world_of S.left C.answers W.words K.written outside.new))) }
+    ensures ready { OnOk result (IsReady D.tells desk.new (D.seen outside.new.disk) (D.images outside.new.disk)) }
+    ensures stands { OnOk result (Leaves D.tells D.moment D.since D.images D.faults (history_at desk.old) (settled (history_at desk.new)) outside.old.disk outside.new.disk) }
+    ensures err { IfErr result (λ end. (final : Final) × Stops (here (history_at desk.old) reader.old (world_of S.left C.answers W.words K.written outside.old)) (world_of S.left C.answers W.words K.written outside.new) end final
+        × Leaves D.tells D.moment D.since D.images D.faults (history_at desk.old) final outside.old.disk outside.new.disk) }
+    ensures moved { OnOk result (reader.new.at ≤ reader.old.at + 81920) }
+    ensures read_cause { result ≡ Err ReadFault → Rose (S.faults outside.old.source) (S.faults outside.new.source) }
+    ensures read_kept { result ≢ Err ReadFault → S.faults outside.new.source ≡ S.faults outside.old.source }
+    ensures disk_cause { result ≡ Err DiskFault → Rose (D.faults outside.old.disk) (D.faults outside.new.disk) }
+    ensures disk_kept { result ≢ Err DiskFault → result ≢ Err WriteFault → D.faults outside.new.disk ≡ D.faults outside.old.disk }
+    ensures write_cause { result ≡ Err WriteFault → Rose (K.faults outside.old.sink) (K.faults outside.new.sink) }
+    ensures write_kept { result ≢ Err WriteFault → K.faults outside.new.sink ≡ K.faults outside.old.sink }
+    ensures draw_cause { result ≡ Err WordsFault → Rose (W.faults outside.old.draws) (W.faults outside.new.draws) }
+    ensures draw_kept { result ≢ Err WordsFault → W.faults outside.new.draws ≡ W.faults outside.old.draws }
+{
+    let refusal = match reader.next(alloc, &mut outside.source) {
+        Ok(Some(raw)) => return reply_to(alloc, &raw, desk, outside),
+        Ok(None) => return Err(End::Done),
+        Err(HttpFault::BadHttp { at }) => Refusal::BadHttp { at },
+        Err(HttpFault::LengthRequired { at }) => Refusal::LengthRequired { at },
+        Err(HttpFault::TooLarge { at }) => Refusal::RequestTooLarge { at },
+        Err(HttpFault::ReadFault) => return Err(End::ReadFault),
+        Err(HttpFault::Memory) => return Err(End::OutOfMemory),
+    };
+    let reply = desk.wallet().refusal(refusal);
+    Err(refuse(alloc, &reply, &mut outside.sink))
+}
+
+/// A session over the history of a desk: requests are answered in order, until it ends.
+pub fn session<D: Disk, S: Source, K: Sink, C: Clock, W: Words>(
+    alloc: Global,
+    mut desk: Desk,
+    outside: &mut Outside<D, S, K, C, W>,
+) -> End
+    requires ready { IsReady D.tells desk (D.seen outside.old.disk) (D.images outside.old.disk) }
+    requires sound { IsSound (history_at desk) }
+    requires spelled { IsTrue D.tells → (c : List ℕ) → D.images outside.old.disk c → Spells (history_at desk) c }
+
+    ensures session { (final : Final) × Session (begun (history_at desk) (world_of S.left C.answers W.words K.written outside.old)) (world_of S.left C.answers W.words K.written outside.new) result final
+        × Kept D.tells D.moment D.since D.images D.faults (history_at desk) final outside.old.disk outside.new.disk }
     ensures read_cause { result ≡ ReadFault → Rose (S.faults outside.old.source) (S.faults outside.new.source) }
     ensures read_kept { result ≢ ReadFault → S.faults outside.new.source ≡ S.faults outside.old.source }
+    ensures disk_cause { result ≡ DiskFault → Rose (D.faults outside.old.disk) (D.faults outside.new.disk) }
+    ensures disk_kept { result ≢ DiskFault → result ≢ WriteFault → D.faults outside.new.disk ≡ D.faults outside.old.disk }
     ensures write_cause { result ≡ WriteFault → Rose (K.faults outside.old.sink) (K.faults outside.new.sink) }
     ensures write_kept { result ≢ WriteFault → K.faults outside.new.sink ≡ K.faults outside.old.sink }
+    ensures draw_cause { result ≡ WordsFault → Rose (W.faults outside.old.draws) (W.faults outside.new.draws) }
+    ensures draw_kept { result ≢ WordsFault → W.faults outside.new.draws ≡ W.faults outside.old.draws }
 {
     let mut reader = Reader::new(alloc);
-    let mut wallet = Wallet::new(alloc);
     for _answered in 0..TURN_LIMIT {
-        match turn(alloc, &mut reader, &mut wallet, outside) {
+        match turn(alloc, &mut reader, &mut desk, outside) {
             Ok(()) => {}
             Err(end) => return end,
         }

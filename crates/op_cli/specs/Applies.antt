@@ -1,0 +1,61 @@
+-- What a call of `apply` comes to: the journal is not opened, or a session on the history that its disk spells.
+use Rattle.std.specs.Prelude.{◌≡◌, ◌⊎◌, ◌≤◌, ◌<◌, ◌+◌, ◌-◌, ◌*◌, ℕ, Bool, List, ◌++◌, length, IsTrue}
+use Rattle.op_causes.specs.Causes.{Rose}
+use Rattle.op_desk.specs.Spelling.{Spells, SpellsSound}
+use Rattle.op_desk.specs.declared.fault.DeskFault.{DeskFault}
+use Rattle.op_desk.specs.declared.fault.DeskFault.TheVariants as faults
+use Rattle.op_disk.specs.Calls.{LeavesOnly}
+use Rattle.op_journal.specs.Recovered.{IsOldOrShort}
+use Rattle.op_model.specs.Legal.{IsLegal}
+use Rattle.op_model.specs.Program.{code_of, illegal_code}
+use Rattle.op_model.specs.Session.{Final, Session, begun, IsCompleteKnown}
+use Rattle.op_model.specs.World.{World}
+use Rattle.op_model.specs.declared.act.Entry.{Entry}
+use Rattle.op_model.specs.declared.end.End.{End}
+use Rattle.op_model.specs.declared.end.End.TheVariants.{DiskFault, OutOfMemory}
+use Rattle.op_cli.specs.Kept.{SpellsAtLeast}
+
+-- the exit status of a journal that is not opened
+abbrev pub code_of_fault : DeskFault → ℕ
+code_of_fault faults.DiskFault = code_of DiskFault
+code_of_fault faults.Memory = code_of OutOfMemory
+code_of_fault _ = illegal_code
+
+-- The journal is not opened: nothing was read, asked, drawn or written. A crash leaves what it could leave before; a disk of at
+-- most 9 bytes may be left with other such bytes.
+pub record DoesNotOpen {D : Type 0} (tells : Bool) (seen : D → List ℕ) (moment : D → ℕ) (since : D → ℕ → List ℕ → Type 0) (images : D → List ℕ → Type 0) (old new : D) (before after : World) (code : ℕ) : Type 0 where
+  pub fault : DeskFault
+  pub status : code ≡ code_of_fault fault
+  pub untouched : after ≡ before
+  pub at_every_moment : IsTrue tells → LeavesOnly moment since old new (IsOldOrShort (images old) (seen old))
+
+-- From the opening's first sync on, a crash leaves the history that was found and some of what was added. After the session's
+-- first 4k calls, and at every moment from there on, it leaves at least k entries more. Each entry that stands has taken four
+-- calls, and there were no other calls but those of a last commit that failed.
+pub record EveryMoment {D : Type 0} (moment : D → ℕ) (since : D → ℕ → List ℕ → Type 0) (first : List Entry) (final : Final) (old new : D) : Type 0 where
+  pub opened : ℕ
+  pub synced_before : moment old + 1 < opened
+  pub prefix : (c : List ℕ) → since new (moment old + 1) c → SpellsAtLeast (length first) final.tried c
+  pub each : (k : ℕ) (c : List ℕ) → k ≤ length final.stands - length first → since new (opened + 4 * k) c → SpellsAtLeast (length first + k) final.tried c
+  pub least : opened + 4 * (length final.stands - length first) ≤ moment new
+  pub most : moment new ≤ opened + 4 * (length final.tried - length first)
+
+-- The journal is opened, and a session runs on the history that its disk spells.
+pub record RunsOn {D : Type 0} (tells : Bool) (seen : D → List ℕ) (moment : D → ℕ) (since : D → ℕ → List ℕ → Type 0) (images : D → List ℕ → Type 0) (faults : D → ℕ) (old new : D) (before after : World) (code : ℕ) : Type 0 where
+  pub first : List Entry
+  pub end : End
+  pub final : Final
+  -- the session begins with the history that the disk spelled, whichever that was
+  pub found : IsTrue tells → Spells first (seen old)
+  pub continues : IsTrue tells → (history : List Entry) → Spells history (seen old) → first ≡ history
+  pub session : Session (begun first before) after end final
+  pub status : code ≡ code_of end
+  pub complete : IsCompleteKnown end session.turns final before after
+  -- what stands goes on from there, and is legal, with the round that a failed commit may have left
+  pub stands : (more : List Entry) × (final.stands ≡ first ++ more)
+  pub tried : (rest : List Entry) × (final.tried ≡ final.stands ++ rest)
+  pub legal : IsLegal final.tried
+  -- a crash at the end leaves what stands; only where the disk failed, perhaps with that round
+  pub at_exit : IsTrue tells → (c : List ℕ) → images new c → Spells final.stands c ⊎ Spells final.tried c
+  pub settled : ¬ Rose (faults old) (faults new) → final.tried ≡ final.stands
+  pub at_every_moment : IsTrue tells → EveryMoment moment since first final old new
