@@ -5,5 +5,6 @@ pub mod Faults
 pub mod Inside
 pub mod Wallets
 pub mod Spelling
+pub mod Payloads
 pub mod Reading
 pub mod Batches

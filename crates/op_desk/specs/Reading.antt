@@ -65,6 +65,15 @@ pub record FailsAtEntry (bytes : List ℕ) (number : ℕ) : Type 0 where
   pub frame : IsFrameAt gate (records round) bytes
   pub stops : StopsAtEntry (history_of rounds) round number
 
+-- no fault of the bytes: one of the disk, or want of memory
+abbrev pub IsFree : DeskFault → Type 0
+IsFree faults.DiskFault = Unit {0}
+IsFree faults.BadHeader = ⊥
+IsFree (faults.BadFrame at) = ⊥
+IsFree (faults.BadRecord at) = ⊥
+IsFree (faults.Illegal place) = ⊥
+IsFree faults.Memory = Unit {0}
+
 -- the bytes are refused by this fault; a fault of the disk and want of memory are none of the bytes
 abbrev pub Fails : DeskFault → List ℕ → Type 0
 Fails faults.DiskFault bytes = ⊥

@@ -1,16 +1,19 @@
 //! A round while it runs.
-ghost use Rattle.std.specs.Prelude.{◌≡◌, ◌+◌, ◌<◌, ◌≤◌, ◌↔◌, [], ℕ, List, true, false, length, replicate, slice_set, IsTrue, Some, slice_get};
+ghost use Rattle.std.specs.Int.{w32, to_be_bytes};
+ghost use Rattle.std.specs.Prelude.{◌≡◌, ◌+◌, ◌-◌, ◌^◌, ◌∷◌, drop, ◌<◌, ◌≤◌, ◌↔◌, [], ℕ, List, true, false, length, replicate, slice_set, IsTrue, vec_len, vec_capacity, Some, slice_get, OnOk, ◌++◌};
 ghost use Rattle.op_model.specs.History.{last_moment, origin_of, with_act};
 ghost use Rattle.op_model.specs.Legal.{is_proper};
 ghost use Rattle.op_model.specs.Printed as printed;
 ghost use Rattle.op_desk.specs.Batches.{BatchValue, history_in};
 ghost use Rattle.op_journal.specs.Commits.{IsBody, payload_of};
 ghost use Rattle.op_desk.specs.Spelling.{records, HaveRecords};
-ghost use Rattle.op_desk.specs.Built.{is_built_task};
+ghost use Rattle.op_desk.specs.Built.{is_built, is_built_task};
+ghost use Rattle.op_record.specs.Cuts.{HasRecord};
+ghost use Rattle.std.specs.Option.{option_to_list, ForSome};
 ghost use Rattle.op_desk.specs.Wallets.{WalletValue, IsSound, Handles, with_entry};
 
-use crate::{TASK_LIMIT, Wallet};
-use op_model::{Refusal, Reply, Task, Word};
+use crate::Wallet;
+use op_model::{Entry, Refusal, Reply, Task, Word};
 use op_names::Origin;
 use op_record::write_entry;
 use op_time::Moment;
@@ -43,6 +46,8 @@ pub struct Batch {
     pub(crate) moment: Moment,
     // Four bytes for the payload's length, and the payload; one byte more is free for the gate behind it.
     pub(crate) body: Vec<u8>,
+    // Where an entry's record is written first.
+    pub(crate) scratch: Vec<u8>,
     pub(crate) places: Vec<u64>,
     pub(crate) used: Vec<bool>,
 }
@@ -69,10 +74,60 @@ pub(crate) struct Round {
     pub(crate) has_entries: bool,
 }
 
+/// Makes room for a record, and in the body for one byte more behind it.
+fn make_room(scratch: &mut Vec<u8>, body: &mut Vec<u8>) -> Result<(), AllocError>
+    ensures room { OnOk result ((scratch.new.items ≡ []) × (21 ≤ vec_capacity scratch.new) × (vec_len body.new + 22 ≤ vec_capacity body.new)) }
+    ensures same { body.new.items ≡ body.old.items }
+    ensures kept { vec_capacity body.old ≤ vec_capacity body.new }
+{
+    scratch.clear();
+    scratch.reserve(RECORD_LIMIT)?;
+    body.reserve(RECORD_LIMIT + 1)
+}
+
+/// Puts an entry's record behind the body. There is room, and a byte stays free.
+#[tactic(auto, using(crate::proofs::Records::built_length))]
+fn put_record(entry: &Option<Entry>, scratch: &mut Vec<u8>, body: &mut Vec<u8>)
+    requires recorded { ForSome entry.now (λ e. HasRecord e × IsTrue (is_built e.act)) }
+    requires scratch { (scratch.old.items ≡ []) × (21 ≤ vec_capacity scratch.old) }
+    requires body { vec_len body.old + 22 ≤ vec_capacity body.old }
+    ensures put { body.new.items ≡ body.old.items ++ records (option_to_list entry.now) }
+    ensures free { vec_len body.new + 1 ≤ vec_capacity body.new }
+{
+    let Some(entry) = entry else {
+        return;
+    };
+    match write_entry(entry, scratch) {
+        Ok(()) => {}
+        Err(_) => unreachable!(),
+    }
+    match body.extend_from_slice(scratch) {
+        Ok(()) => {}
+        Err(_) => unreachable!(),
+    }
+}
+
+/// Writes the payload's length in front of it, and a closed gate behind it.
+fn close_body(body: &mut Vec<u8>)
+    requires four { 4 ≤ length body.old.items }
+    requires small { length body.old.items < 2 ^ 32 }
+    requires free { vec_len body.old + 1 ≤ vec_capacity body.old }
+    ensures { body.new.items ≡ (to_be_bytes w32 (length body.old.items - 4) ++ drop 4 body.old.items) ++ 0 ∷ [] }
+{
+    let length = (body.len() - LENGTH_BYTES) as u32;
+    let bytes = length.to_be_bytes();
+    body[0] = bytes[0];
+    body[1] = bytes[1];
+    body[2] = bytes[2];
+    body[3] = bytes[3];
+    body.push_reserved(0);
+}
+
 impl Batch {
     /// A round of so many tasks at a moment, on a wallet that has room for them.
     pub(crate) fn new(
         body: Vec<u8>,
+        scratch: Vec<u8>,
         places: Vec<u64>,
         used: Vec<bool>,
         wallet: Wallet,
@@ -81,6 +136,7 @@ impl Batch {
         requires later { last_moment wallet.history ≤ t }
         requires tasks { length places.items ≤ 272 }
         requires same { length used.items ≡ length places.items }
+        requires body { (length body.items ≡ 4) × (vec_len body + 1 ≤ vec_capacity body) }
         ensures { result ≡ record { begun = wallet.history; moment = t; entries = []; places = places.items; used = used.items } }
     {
         let begun = wallet.count();
@@ -89,6 +145,7 @@ impl Batch {
             begun,
             moment: t,
             body,
+            scratch,
             places,
             used,
         }
@@ -119,14 +176,12 @@ impl Batch {
     {
         self.places[index as usize] = self.wallet.count() - self.begun;
         self.used[index as usize] = true;
-        match self.body.reserve(RECORD_LIMIT + 1) {
+        match make_room(&mut self.scratch, &mut self.body) {
             Ok(()) => {}
             Err(_) => return self.wallet.refusal(Refusal::Memory),
         }
         let outcome = self.wallet.answer(self.moment, word, task);
-        if let Some(entry) = &outcome.entry {
-            let _ = write_entry(entry, &mut self.body);
-        }
+        put_record(&outcome.entry, &mut self.scratch, &mut self.body);
         outcome.reply
     }
 
@@ -149,9 +204,7 @@ impl Batch {
             ..
         } = self;
         let has_entries = wallet.count() > begun;
-        let length = (body.len() - LENGTH_BYTES) as u32;
-        body[..LENGTH_BYTES].copy_from_slice(&length.to_be_bytes());
-        body.push_reserved(0);
+        close_body(&mut body);
         Round {
             wallet,
             body,

@@ -1,5 +1,5 @@
 //! The desk: opening it on any disk, beginning rounds, and committing them.
-ghost use Rattle.std.specs.Prelude.{◌≡◌, ◌≢◌, ◌⊎◌, ◌+◌, ◌<◌, ◌≤◌, ◌∷◌, ◌++◌, [], ℕ, List, length, replicate, false, IsTrue, IsSome, IsNone, IfSome, IfOk, OnOk, IfErr, OnErr, IsErrOf, IsOk, Ok, None};
+ghost use Rattle.std.specs.Prelude.{◌≡◌, ◌≢◌, ◌⊎◌, ◌+◌, ◌<◌, ◌≤◌, ◌∷◌, ◌++◌, [], ℕ, List, length, replicate, false, IsTrue, IsSome, IsNone, IfSome, IfOk, OnOk, IfErr, OnErr, IsErrOf, IsErrAnd, IsOk, Ok, None};
 ghost use Rattle.op_causes.specs.Causes.{Rose};
 ghost use Rattle.op_disk.specs.Calls.{LeavesOnly};
 ghost use Rattle.op_journal.specs.Commits as journal_spells;
@@ -9,12 +9,12 @@ ghost use Rattle.op_journal.specs.Recovered.{IsOldOrShort};
 ghost use Rattle.op_model.specs.History.{last_moment};
 ghost use Rattle.op_model.specs.declared.act.Entry.{Entry};
 ghost use Rattle.op_desk.specs.Batches.{DeskValue, IsWhole, history_in};
-ghost use Rattle.op_desk.specs.Reading.{Fails};
+ghost use Rattle.op_desk.specs.Reading.{Fails, IsFree};
 ghost use Rattle.op_desk.specs.Spelling.{Spells, SpellsSound, SpellsRounds, SpellsEither, Stands, with_round, history_of, records};
 ghost use Rattle.op_desk.specs.Wallets.{WalletValue, IsSound};
 
-use crate::batch::{Batch, Committed};
-use crate::payload::{load_entries, read_entries};
+use crate::batch::{Batch, Committed, Round};
+use crate::payload::load_payload;
 use crate::{DeskFault, RoundFault, Wallet};
 use op_disk::Disk;
 use op_journal::{CommitFault, Journal, LIMIT, Recovery};
@@ -55,29 +55,38 @@ impl Desk {
         ensures whole { IfOk result (λ desk. (history : List Entry) × IsWhole desk.wallet history × IsSound history × (IsTrue D.tells → Spells history (D.seen disk.old))) }
         ensures stands { IfOk result (λ desk. IsTrue D.tells → (rounds : List (List Entry)) × IsWhole desk.wallet (history_of rounds) × Stands rounds desk.tail (D.seen disk.new) (D.images disk.new)) }
         // A refusal comes where reading from the front first fails, and no such disk is opened; a legal history is.
-        ensures refused { IfErr result (λ e. IsTrue D.tells → (e ≡ DeskFault.DiskFault) ⊎ (e ≡ DeskFault.Memory) ⊎ Fails e (D.seen disk.old)) }
-        ensures refused_where { (fault : _) → IsTrue D.tells → Fails fault (D.seen disk.old) → IsErrOf result fault ⊎ IsErrOf result DeskFault.DiskFault ⊎ IsErrOf result DeskFault.Memory }
-        ensures opened_where { (history : List Entry) → IsTrue D.tells → SpellsSound history (D.seen disk.old) → IfErr result (λ e. (e ≡ DeskFault.DiskFault) ⊎ (e ≡ DeskFault.Memory)) }
+        ensures refused { IfErr result (λ e. IsTrue D.tells → IsFree e ⊎ Fails e (D.seen disk.old)) }
+        ensures refused_where { (fault : _) → IsTrue D.tells → Fails fault (D.seen disk.old) → IsErrAnd result (λ e. (e ≡ fault) ⊎ IsFree e) }
+        ensures opened_where { (history : List Entry) → IsTrue D.tells → SpellsSound history (D.seen disk.old) → IfErr result IsFree }
         // At every moment.
         ensures any_moment { IsTrue D.tells → LeavesOnly D.moment D.since disk.old disk.new (IsOldOrShort (D.images disk.old) (D.seen disk.old)) }
         ensures synced { IsTrue D.tells → D.moment disk.old + 1 < D.moment disk.new → (c : List ℕ) → D.since disk.new (D.moment disk.old + 1) c → IsOldOrShort (λ d. d ≡ D.seen disk.old) (D.seen disk.old) c }
-        ensures past_sync { (IsErrOf result DeskFault.DiskFault → ⊥) → D.moment disk.old + 1 < D.moment disk.new }
+        ensures past_sync { IsTrue D.tells → (IsErrOf result DeskFault.DiskFault → ⊥) → D.moment disk.old + 1 < D.moment disk.new }
         ensures cause { (IsErrOf result DeskFault.DiskFault → ⊥) → D.faults disk.new ≡ D.faults disk.old }
         ensures fault { IsErrOf result DeskFault.DiskFault → Rose (D.faults disk.old) (D.faults disk.new) }
     {
-        let mut recovery = Recovery::begin(disk)?;
+        let mut recovery = match Recovery::begin(disk) {
+            Ok(recovery) => recovery,
+            Err(fault) => return Err(DeskFault::from(fault)),
+        };
         let mut wallet = Wallet::new(alloc);
         let mut payload = Vec::new(alloc);
         let mut gate = 8;
         for _frame in 0..LIMIT {
-            if !recovery.next_frame(alloc, disk, &mut payload)? {
+            let more = match recovery.next_frame(alloc, disk, &mut payload) {
+                Ok(more) => more,
+                Err(fault) => return Err(DeskFault::from(fault)),
+            };
+            if !more {
                 return Ok(Desk {
                     journal: recovery.finish(),
                     wallet: Some(wallet),
                 });
             }
-            let entries = read_entries(alloc, &payload, gate + 5)?;
-            load_entries(&mut wallet, &entries)?;
+            match load_payload(alloc, &mut wallet, &payload, gate + 5) {
+                Ok(()) => {}
+                Err(fault) => return Err(fault),
+            }
             gate += 5 + payload.len() as u64;
         }
         unreachable!()
@@ -109,6 +118,7 @@ impl Desk {
         let mut body = Vec::new(alloc);
         body.reserve(5)?;
         body.extend_from_slice(&[0; 4])?;
+        let scratch = Vec::new(alloc);
         let places = vec![in alloc; 0; tasks as usize]?;
         let used = vec![in alloc; false; tasks as usize]?;
         match &mut self.wallet {
@@ -116,7 +126,7 @@ impl Desk {
             None => unreachable!(),
         }
         match self.wallet.take() {
-            Some(wallet) => Ok(Batch::new(body, places, used, wallet, t)),
+            Some(wallet) => Ok(Batch::new(body, scratch, places, used, wallet, t)),
             None => unreachable!(),
         }
     }
@@ -154,15 +164,27 @@ impl Desk {
     {
         self.wallet = None;
         let round = batch.into_round();
-        if round.has_entries {
-            commit(&mut self.journal, disk, &round.body)?;
+        if !round.has_entries {
+            return Ok(self.take_back(round));
         }
+        commit(&mut self.journal, disk, &round.body)?;
+        Ok(self.take_back(round))
+    }
+
+    /// Takes the wallet of a round that stands.
+    fn take_back(&mut self, round: Round) -> Committed
+        requires sound { IsSound round.wallet.history }
+        requires is_open { self.old.closed ≡ false }
+        ensures whole { IsWhole self.new.wallet round.wallet.history }
+        ensures committed { (result.places ≡ round.places) × (result.count ≡ length round.wallet.history) }
+        ensures same { (self.new.tail ≡ self.old.tail) × (self.new.closed ≡ self.old.closed) }
+    {
         let count = round.wallet.count();
         self.wallet = Some(round.wallet);
-        Ok(Committed {
+        Committed {
             places: round.places,
             count,
-        })
+        }
     }
 }
 

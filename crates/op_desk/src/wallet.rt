@@ -1,14 +1,18 @@
 //! The wallet: a legal history, and the plain wallet's answers on it.
-ghost use Rattle.std.specs.Prelude.{◌≡◌, ◌+◌, ◌≤◌, ◌∷◌, ◌++◌, [], ℕ, List, length, IsTrue, Some, None, OnOk, OnErr, IfSome, IsErrOf, IsSome, IfNone, if◌then◌else◌, codes};
+ghost use Rattle.std.specs.Prelude.{◌≡◌, ◌+◌, ◌≤◌, ◌∷◌, ◌++◌, [], ℕ, List, length, IsTrue, Some, None, OnOk, OnErr, IfSome, IsErrOf, IfNone, if◌then◌else◌, codes};
 ghost use Rattle.std.specs.List.{list_any};
 ghost use Rattle.op_amount.specs.Code.{is_asset_code};
 ghost use Rattle.op_model.specs.History.{last_moment, origin_of};
-ghost use Rattle.op_model.specs.Legal.{is_proper};
+ghost use Rattle.op_model.specs.Legal.{is_proper, keeps_forms};
+ghost use Rattle.op_time.specs.declared.TheConstants.{LAST};
 ghost use Rattle.op_model.specs.Printed as printed;
 ghost use Rattle.op_model.specs.Turn.{refusal_reply};
 ghost use Rattle.op_model.specs.declared.act.Act.TheVariants.{AssetAdded};
+ghost use Rattle.op_model.specs.declared.request.Request.TheVariants.{AddAsset};
+ghost use Rattle.op_model.specs.declared.request.Task.TheVariants.{Ask};
+ghost use Rattle.op_model.specs.declared.request.Verdict.{Verdict};
 ghost use Rattle.op_record.specs.Cuts.{HasRecord};
-ghost use Rattle.op_desk.specs.Answers.{adds, reply_with};
+ghost use Rattle.op_desk.specs.Answers.{adds, may_add, reply_with};
 ghost use Rattle.op_desk.specs.Built.{is_built, is_built_task};
 ghost use Rattle.op_desk.specs.Wallets.{WalletValue, IsSound, IsTaken, Handles, with_entry};
 
@@ -97,10 +101,19 @@ fn code_of(bytes: &[u8]) -> Option<AssetCode>
     }
 }
 
+/// Whether an asset may be added at a moment: its members have their forms, the moment is not below the last one, and the
+/// asset is not there.
+fn may_add(entries: &[Entry], at: Moment, asset: &Asset, pieces: u8) -> bool
+    ensures { result ≡ may_add entries.now at asset.now pieces }
+{
+    let in_form = asset.scale <= Asset::SCALE_LIMIT && (1..=64).contains(&pieces);
+    let in_order = last_moment(entries).ms() <= at.ms();
+    in_form && in_order && !has_asset(entries, asset)
+}
+
 /// The entry again, where it may follow the entries and its act is built.
 fn taken(entries: &[Entry], entry: &Entry) -> Option<Entry>
-    ensures same { IfSome result (λ e. e ≡ entry.now) }
-    ensures yes { IsSome result → IsTaken entries.now entry.now }
+    ensures yes { IfSome result (λ e. (e ≡ entry.now) × IsTaken entries.now entry.now) }
     ensures no { IfNone result (IsTaken entries.now entry.now → ⊥) }
 {
     let Act::AssetAdded {
@@ -111,12 +124,15 @@ fn taken(entries: &[Entry], entry: &Entry) -> Option<Entry>
     else {
         return None;
     };
+    let Some(asset_code) = code_of(code.as_bytes()) else {
+        return None;
+    };
     let asset = Asset {
-        code: code_of(code.as_bytes())?,
+        code: asset_code,
         scale: *scale,
     };
-    let in_form = asset.scale <= Asset::SCALE_LIMIT && (1..=64).contains(pieces);
-    if !in_form || entry.at.ms() < last_moment(entries).ms() || has_asset(entries, &asset) {
+    let _at_most_last = entry.at.ms();
+    if !may_add(entries, entry.at, &asset, *pieces) {
         return None;
     }
     Some(Entry {
@@ -131,9 +147,12 @@ fn taken(entries: &[Entry], entry: &Entry) -> Option<Entry>
 
 /// The entry that adds an asset.
 fn added(t: Moment, asset: &Asset, pieces: u8) -> Entry
+    requires { IsTrue (keeps_forms (AddAsset asset.now pieces)) }
     ensures is { result ≡ record { at = t; act = AssetAdded asset.now.code asset.now.scale pieces } }
+    ensures limit { t ≤ LAST }
     ensures recorded { HasRecord result }
 {
+    let _at_most_last = t.ms();
     Entry {
         at: t,
         act: Act::AssetAdded {
@@ -222,28 +241,40 @@ impl Wallet {
         ensures illegal { (place : ℕ) → IsErrOf result (LoadFault.Illegal place) → (place ≡ length self.old.history + 1) × (IsTaken self.old.history entry.now → ⊥) }
         ensures spare { self.old.spare ≤ self.new.spare + 1 }
         ensures refused { OnErr result (self.new ≡ self.old) }
+        ensures sound { IsSound self.new.history }
     {
         let Some(kept) = taken(&self.entries, entry) else {
             return Err(LoadFault::Illegal {
                 place: self.entries.len() as u64 + 1,
             });
         };
-        match self.entries.push(kept) {
-            Ok(()) => Ok(()),
-            Err(_) => Err(LoadFault::Memory),
+        match self.entries.reserve(1) {
+            Ok(()) => {}
+            Err(_) => return Err(LoadFault::Memory),
         }
+        self.entries.push_reserved(kept);
+        Ok(())
     }
 
     fn add_asset(&mut self, t: Moment, asset: &Asset, pieces: u8) -> Outcome
+        requires later { last_moment self.old.history ≤ t }
+        requires proper { IsTrue (keeps_forms (AddAsset asset.now pieces)) }
+        ensures handled { (place : ℕ) (verdict : Verdict) (word : List ℕ) → Handles self.old.history t place (Ask (AddAsset asset.now pieces) verdict) word result.reply self.new.history }
         ensures entry { self.new.history ≡ with_entry self.old.history result.entry }
+        ensures recorded { IfSome result.entry (λ e. (e.at ≡ t) × HasRecord e × IsTrue (is_built e.act)) }
+        ensures origin { result.reply.origin ≡ origin_of self.new.history }
+        ensures printed { IsTrue (printed.is_built result.reply.body) }
+        ensures sound { IsSound self.new.history }
+        ensures spare { self.old.spare ≤ self.new.spare + 1 }
     {
         if has_asset(&self.entries, asset) {
             return self.refused(Refusal::AlreadyExists);
         }
-        match self.entries.push(added(t, asset, pieces)) {
+        match self.entries.reserve(1) {
             Ok(()) => {}
             Err(_) => return self.refused(Refusal::Memory),
         }
+        self.entries.push_reserved(added(t, asset, pieces));
         Outcome {
             reply: self.reply(ReplyBody::AssetAdded {
                 asset: *asset,
@@ -267,13 +298,14 @@ impl Wallet {
         ensures origin { result.reply.origin ≡ origin_of self.new.history }
         ensures printed { IsTrue (printed.is_built result.reply.body) }
         ensures spare { self.old.spare ≤ self.new.spare + 1 }
+        ensures sound { IsSound self.new.history }
     {
-        match task {
-            Task::Ask {
-                request: Request::AddAsset { asset, pieces },
-                ..
-            } => self.add_asset(t, asset, *pieces),
-            _ => unreachable!(),
-        }
+        let Task::Ask { request, .. } = task else {
+            unreachable!()
+        };
+        let Request::AddAsset { asset, pieces } = request else {
+            unreachable!()
+        };
+        self.add_asset(t, asset, *pieces)
     }
 }
