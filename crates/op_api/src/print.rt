@@ -137,7 +137,12 @@ fn push_allow(out: &mut Vec<u8>, allow: Option<&[u8]>) -> Result<(), AllocError>
 }
 
 /// A head, and a body behind it.
-fn message(alloc: Global, status: &str, allow: Option<&[u8]>, body: &[u8]) -> Result<Vec<u8>, AllocError>
+fn message(
+    alloc: Global,
+    status: &str,
+    allow: Option<&[u8]>,
+    body: &[u8],
+) -> Result<Vec<u8>, AllocError>
     ensures { IfOk result (λ text. text.items ≡ message status.now (option_map (λ (a : Bor (List ℕ)). a.now) allow.entry) None (Some body.now)) }
 {
     let length = body.len();

@@ -1,12 +1,11 @@
 -- A window begins with at most one head, which is all of it.
-use Rattle.std.proofs.Common.{◌≡◌, ◌≤◌, ◌<◌, ◌+◌, ◌-◌, ℕ, Bool, true, false, ◌&&◌, ◌||◌, not, nat_eq, List, [], ◌∷◌, ◌++◌, codes, length, take, drop, refl, sym, ap, subst, ◌∙◌, arith, append_assoc, length-append, cond}
+use Rattle.std.proofs.Common.{◌≡◌, ◌-◌, ℕ, Bool, true, false, ◌&&◌, ◌||◌, not, nat_eq, List, [], ◌∷◌, ◌++◌, codes, length, drop, refl, sym, ap, ◌∙◌, arith, append_assoc, length-append}
 use Rattle.std.specs.List.{flat_map, ends_with, list_any}
-use Rattle.std.proofs.lemmas.List.{take_at, drop_at, take-append-drop, append-nil}
+use Rattle.std.proofs.lemmas.List.{drop_at, append-nil}
 use Rattle.std.proofs.lemmas.List.Folds.{list_any-append}
 use Rattle.httparse.specs.Grammar.{RequestHead, LineEnd, crlf, lf, print_end, print_blank, print_version, Field, print_field, print_request}
-use Rattle.httparse.proofs.GrammarLemmas.{request_unique, ReadsRequest-append, print_request-append, cons-append}
-use Rattle.op_model.specs.Requests.{is_line_byte, ends_with_mark, BeginsWithHead, HasNoHead}
-use Rattle.op_http.specs.Marks.{HasNoMark, IsFirstMark}
+use Rattle.httparse.proofs.GrammarLemmas.{request_unique, print_request-append, cons-append}
+use Rattle.op_model.specs.Requests.{is_line_byte, ends_with_mark, BeginsWithHead}
 
 pub head_unique : (window : List ℕ) (h k : RequestHead) (r q : List ℕ)
     → BeginsWithHead window h r → BeginsWithHead window k q → (h ≡ k) × (r ≡ q)

@@ -1,13 +1,13 @@
 -- What a call reads of the stream, told by what is held before and behind it.
-use Rattle.std.proofs.Common.{◌≡◌, ◌≤◌, ◌<◌, ◌+◌, ◌-◌, ℕ, Bool, true, false, List, [], ◌∷◌, ◌++◌, Some, None, Ok, Err, Result, IfSome, IfOk, MatchResult, length, take, drop, refl, sym, ap, subst, ◌∙◌, arith, append_assoc, length-append}
+use Rattle.std.proofs.Common.{◌≡◌, ◌≤◌, ◌<◌, ◌+◌, ◌-◌, ℕ, List, [], ◌++◌, Some, None, Ok, Err, Result, IfSome, IfOk, MatchResult, length, take, drop, refl, sym, ap, subst, ◌∙◌, arith}
 use Rattle.std.proofs.lemmas.List.{take-take, take-append-le, take-append-drop, append-nil, length-take, length-take-le, length-drop, drop-take}
 use Rattle.std.specs.declared.option.Option.{Option}
 use Rattle.std.specs.Io.KnownBytes.{Consumes, IsAtEnd, prepend_known}
-use Rattle.op_model.specs.Requests.{Raw, head_limit, ends_with_mark, IsEnded, IsBadHttp, IsTooLarge, IsLengthRequired, BeginsWithNoRequest}
+use Rattle.op_model.specs.Requests.{Raw, head_limit, ends_with_mark, IsBadHttp, IsTooLarge, IsLengthRequired, BeginsWithNoRequest}
 use Rattle.op_http.specs.Head.{HeadParts, Frames, FramesNot}
 use Rattle.op_http.specs.Held.{Held}
-use Rattle.op_http.specs.Marks.{HasNoMark, IsFirstMark}
-use Rattle.op_http.specs.Reader.{stream, Fills, Stays, Takes, HasEnded, RefusesAt, Refuses, Reads, ReadsOne, IsFramed, CutsOff, refusal_at, fault_of}
+use Rattle.op_http.specs.Marks.{IsFirstMark}
+use Rattle.op_http.specs.Reader.{stream, Fills, Stays, Takes, RefusesAt, Refuses, IsFramed, CutsOff, refusal_at, fault_of}
 use Rattle.op_http.specs.declared.frame.Frame.{Frame}
 use Rattle.op_http.specs.declared.frame.FrameFault.{FrameFault}
 use Rattle.op_http.specs.declared.frame.FrameFault.TheVariants as frame_faults
@@ -15,7 +15,7 @@ use Rattle.op_http.specs.declared.reader.FillFault.{FillFault}
 use Rattle.op_http.specs.declared.reader.FillFault.TheVariants as fill_faults
 use Rattle.op_http.specs.declared.reader.HttpFault.{HttpFault}
 use Rattle.op_http.specs.declared.reader.HttpFault.TheVariants.{BadHttp, LengthRequired, TooLarge, ReadFault, Memory}
-use Rattle.op_http.proofs.Requests.{mark_stays, no_head_refused, chunked_refused, bad_length_refused, long_body_refused, cut_short_refused, long_head_refused, short_head_refused, no_request_unmarked, no_request_short, whole_request, head_is_window}
+use Rattle.op_http.proofs.Requests.{mark_stays, no_head_refused, chunked_refused, bad_length_refused, long_body_refused, cut_short_refused, no_request_short, whole_request, head_is_window}
 use Rattle.op_http.proofs.Stream.{consumes_trans, consumes_filled, consumes_cut}
 
 -- ---- nothing is taken

@@ -1,13 +1,11 @@
 -- What a head in the window says of the stream.
-use Rattle.std.proofs.Common.{◌≡◌, ◌≤◌, ◌<◌, ◌+◌, ◌-◌, ℕ, zero, suc, Bool, true, false, List, [], ◌∷◌, ◌++◌, Some, None, codes, length, take, drop, refl, sym, ap, subst, ◌∙◌, inl, inr, arith, append_assoc, length-append, nat_lt, ◌⊎◌, not, ◌&&◌, ◌||◌}
+use Rattle.std.proofs.Common.{◌≡◌, ◌≤◌, ◌<◌, ◌+◌, ℕ, zero, suc, Bool, true, false, List, [], ◌∷◌, ◌++◌, Some, None, codes, length, take, drop, refl, sym, ap, subst, ◌∙◌, inl, inr, arith, append_assoc, length-append, nat_lt, not, ◌&&◌, ◌||◌}
 use Rattle.std.specs.Prelude.{⊤}
 use Rattle.std.specs.List.{list_any}
-use Rattle.std.proofs.lemmas.List.{take-take, take-append-le, take-append-drop, take_at, drop_at, append-nil, length-take, length-drop, take_all, drop-take}
-use Rattle.std.proofs.Math.Seq.{take-length}
+use Rattle.std.proofs.lemmas.List.{take-take, take-append-le, take-append-drop, take_at, append-nil, length-take, length-drop, take_all}
 use Rattle.std.proofs.lemmas.Bool.{cases_Bool, ltb-true, ltb-false}
-use Rattle.std.specs.declared.option.Option.{Option}
 use Rattle.httparse.specs.Grammar.{RequestHead, print_request}
-use Rattle.op_model.specs.Requests.{Raw, head_limit, body_limit, is_line_byte, ends_with_mark, window_of, BeginsWithHead, HasNoHead, HasHead, HasFields, BeginsWithRequest, IsWholeRequest, BeginsWithNoRequest, IsEnded, IsNoHead, IsLongHead, HasBadLength, HasLongBody, EndsInBody, IsBadHttp, IsLengthRequired, IsTooLarge, fields_of, has_field, body_length}
+use Rattle.op_model.specs.Requests.{Raw, head_limit, body_limit, is_line_byte, ends_with_mark, window_of, BeginsWithHead, HasNoHead, HasHead, HasFields, IsWholeRequest, BeginsWithNoRequest, IsEnded, IsBadHttp, IsLengthRequired, IsTooLarge, fields_of, has_field, body_length}
 use Rattle.op_http.specs.Head.{HeadParts, HoldsHead, Frames, HoldsFields}
 use Rattle.op_http.specs.Marks.{HasNoMark, IsFirstMark}
 use Rattle.op_http.proofs.Heads.{head_unique, head_ends}

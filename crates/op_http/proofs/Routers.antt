@@ -1,5 +1,5 @@
 -- The router of the table, and the methods that it finds.
-use Rattle.std.proofs.Common.{◌≡◌, ℕ, zero, suc, ◌-◌, true, false, inl, inr, ◌+◌, ◌<◌, ◌≤◌, length, add-one, List, [], ◌∷◌, Result, Ok, Err, OnOk, Option, Some, None, map, drop, get_or, option_and_then, refl, ap, sym, ◌∙◌, arith}
+use Rattle.std.proofs.Common.{◌≡◌, ℕ, zero, suc, ◌-◌, inl, inr, ◌+◌, ◌<◌, ◌≤◌, length, add-one, List, [], ◌∷◌, Result, Ok, Err, OnOk, Option, Some, None, map, drop, get_or, option_and_then, refl, ap, sym, ◌∙◌, arith}
 use Rattle.std.specs.Option.{option_map}
 use Rattle.std.specs.List.{slice_get, after_first, before_first}
 use Rattle.op_names.specs.Forms.{is_slash}

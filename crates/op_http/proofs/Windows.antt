@@ -1,11 +1,9 @@
 -- End marks, and the window that they end.
-use Rattle.std.proofs.Common.{◌≡◌, ◌≤◌, ◌<◌, ◌+◌, ◌-◌, ℕ, zero, suc, Bool, true, false, ◌&&◌, ◌||◌, not, List, [], ◌∷◌, ◌++◌, codes, nat_eq, length, take, drop, refl, sym, ap, subst, ◌∙◌, inl, inr, arith, cond, append_assoc, length-append, nat_lt, min}
-use Rattle.std.specs.List.{ends_with, list_any}
-use Rattle.std.proofs.lemmas.List.{take-take, take-append-le, take-append-drop, take_at, drop_at, append-nil, length-take, take_all}
+use Rattle.std.proofs.Common.{◌≡◌, ◌≤◌, ◌<◌, ◌+◌, ℕ, zero, suc, true, false, List, [], ◌∷◌, ◌++◌, length, take, refl, sym, ap, subst, ◌∙◌, inl, inr, arith, append_assoc, length-append, nat_lt, min}
+use Rattle.std.proofs.lemmas.List.{take-take, take-append-le, length-take, take_all}
 use Rattle.std.proofs.Math.Seq.{take-length}
-use Rattle.std.proofs.lemmas.List.Folds.{list_any-append}
 use Rattle.std.proofs.lemmas.Bool.{cases_Bool, ltb-true, ltb-false}
-use Rattle.op_model.specs.Requests.{head_limit, is_line_byte, ends_with_mark, through_mark, window_of}
+use Rattle.op_model.specs.Requests.{head_limit, ends_with_mark, through_mark, window_of}
 use Rattle.op_http.specs.Marks.{HasNoMark, IsFirstMark}
 
 -- what holds up to the whole text holds at any number

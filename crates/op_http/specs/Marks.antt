@@ -10,6 +10,11 @@ use Rattle.op_http.specs.declared.reader.Edge.TheVariants.{Mark, Limit, End}
 abbrev pub HasNoMark : List ℕ → Type 0
 HasNoMark text = (k : ℕ) → ends_with_mark (take k text) ≡ false
 
+-- no end mark ends in the first n bytes of the text
+pub record HasNoMarkTo (n : ℕ) (text : List ℕ) : Type 0 where
+  pub within : n ≤ length text
+  pub none : (k : ℕ) → k ≤ n → ends_with_mark (take k text) ≡ false
+
 -- the text's first end mark ends behind n bytes
 pub record IsFirstMark (text : List ℕ) (n : ℕ) : Type 0 where
   pub ends : ends_with_mark (take n text) ≡ true

@@ -9,10 +9,9 @@ ghost use Rattle.op_model.specs.RouteTable.{with_route, rows_from, places, addre
 ghost use Rattle.op_http.specs.Places.{place_of_row};
 ghost use Rattle.op_http.specs.Routes.{IsAsked};
 
-use op_model::{Methods, Operation};
 use crate::route::RouteFault;
 use matchit::{InsertError, Router};
-use op_model::Text;
+use op_model::{Methods, Operation, Text};
 use op_names::{NameFault, read_path};
 use std::alloc::{AllocError, Global};
 

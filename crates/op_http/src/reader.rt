@@ -3,8 +3,8 @@ ghost use Rattle.std.specs.Prelude.{◌≡◌, ◌<◌, ◌≤◌, ◌+◌, ◌-
 ghost use Rattle.std.specs.Bool.{MatchBool};
 ghost use Rattle.std.specs.Io.KnownBytes.{Consumes, IsAtEnd, Keeps};
 ghost use Rattle.op_causes.specs.Causes.{Rose};
-ghost use Rattle.op_model.specs.Requests.{IsEnded};
-ghost use Rattle.op_http.specs.Marks.{HasNoMark, IsFirstMark, IsEdge};
+ghost use Rattle.op_model.specs.Requests.{IsEnded, head_limit};
+ghost use Rattle.op_http.specs.Marks.{HasNoMark, HasNoMarkTo, IsFirstMark, IsEdge};
 ghost use Rattle.op_http.specs.Reader.{fault_of, IsOpen};
 
 use crate::frame::{Frame, FrameFault, read_frame};
@@ -79,12 +79,14 @@ fn is_blank(bytes: &[u8]) -> bool
     is_text(bytes, b"") || is_text(bytes, b"\r\n") || is_text(bytes, b"\n")
 }
 
-/// Where the window ends, if these bytes tell it.
-fn edge_of(bytes: &[u8]) -> Option<Edge>
+/// Where the window ends, if these bytes tell it. No end mark ends in the first `from` of them.
+fn edge_of(bytes: &[u8], from: usize) -> Option<Edge>
+    requires clear { HasNoMarkTo from bytes.now }
+    requires limit { from ≤ head_limit }
     ensures { MatchOption result (IsOpen bytes.now) (λ edge. (left : Option (List ℕ)) → IsEdge bytes.now left edge) }
 {
     let front = &bytes[..bytes.len().min(HEAD_LIMIT)];
-    match first_mark(front) {
+    match first_mark(front, from) {
         Some(end) => Some(Edge::Mark(end)),
         None => {
             if bytes.len() < HEAD_LIMIT {
@@ -205,11 +207,13 @@ impl Reader {
         fill(&mut self.kept, source, most)
     }
 
-    /// Where the window ends, if what is held tells it.
-    fn edge(&self) -> Option<Edge>
+    /// Where the window ends, if what is held tells it. No end mark ends in the first `from` bytes.
+    fn edge(&self, from: usize) -> Option<Edge>
+        requires clear { HasNoMarkTo from self.now.bytes }
+        requires limit { from ≤ head_limit }
         ensures { MatchOption result (IsOpen self.now.bytes) (λ edge. (left : Option (List ℕ)) → IsEdge self.now.bytes left edge) }
     {
-        edge_of(&self.kept)
+        edge_of(&self.kept, from)
     }
 
     /// Reads on until what is held tells where the window ends.
@@ -221,10 +225,13 @@ impl Reader {
         ensures cause { IsErrOf result FillFault.Read → Rose (S.faults source.old) (S.faults source.new) }
         ensures faults { ¬ IsErrOf result FillFault.Read → S.faults source.new ≡ S.faults source.old }
     {
+        // How many bytes were looked through.
+        let mut scanned = 0;
         'reading: loop {
-            if let Some(edge) = self.edge() {
+            if let Some(edge) = self.edge(scanned) {
                 return Ok(edge);
             }
+            scanned = self.len();
             match self.more(source, HEAD_LIMIT) {
                 Ok(0) => return Ok(Edge::End),
                 Ok(_) => {}

@@ -5,10 +5,9 @@ ghost use Rattle.op_names.specs.Forms.{is_slash};
 ghost use Rattle.op_model.specs.RouteTable.{is_question, segment, path_of, operation_of};
 ghost use Rattle.op_http.specs.Routes.{route_with, Routed};
 
-use op_model::Operation;
 use crate::places::find_operation;
 use crate::request::RawRequest;
-use op_model::Text;
+use op_model::{Operation, Text};
 use std::alloc::{AllocError, Global};
 
 /// An operation, with its path parameters as they stand in the path.

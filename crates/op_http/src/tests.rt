@@ -118,15 +118,21 @@ fn heads(rt: HostRuntime) -> Result<(), Fail> {
 fn limits(rt: HostRuntime) -> Result<(), Fail> {
     let line = b"GET / HTTP/1.1\r\nx: ";
     let short = with_filler(rt.alloc(), line, 16_383 - line.len(), b"")?;
-    expect_in(&rt, rt.alloc(), &short, &[100_000, 500], First::Bad(0))?;
+    expect_in(&rt, rt.alloc(), &short, &[100_000, 500, 1], First::Bad(0))?;
     let long = with_filler(rt.alloc(), line, 16_384 - line.len(), b"")?;
-    expect_in(&rt, rt.alloc(), &long, &[100_000, 500], First::TooLarge(0))?;
+    expect_in(
+        &rt,
+        rt.alloc(),
+        &long,
+        &[100_000, 500, 1],
+        First::TooLarge(0),
+    )?;
     let fits = with_filler(rt.alloc(), line, 16_380 - line.len(), b"\r\n\r\n")?;
     expect_in(
         &rt,
         rt.alloc(),
         &fits,
-        &[100_000, 500],
+        &[100_000, 500, 1],
         First::Request(1, 0, 1),
     )?;
     let whole = b"POST /grant HTTP/1.1\r\ncontent-length: 65536\r\n\r\n";
@@ -135,7 +141,7 @@ fn limits(rt: HostRuntime) -> Result<(), Fail> {
         &rt,
         rt.alloc(),
         &body,
-        &[100_000, 500],
+        &[100_000, 500, 1],
         First::Request(6, 65_536, 1),
     )?;
     let over = b"POST /grant HTTP/1.1\r\ncontent-length: 65537\r\n\r\n";

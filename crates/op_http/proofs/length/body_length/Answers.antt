@@ -1,4 +1,4 @@
-use Rattle.std.proofs.Common.{◌≡◌, codes, sym, ◌∙◌}
+use Rattle.std.proofs.Common.{codes, sym, ◌∙◌}
 use Rattle.op_http.proofs.Telling.{told_other, told_named, told_against}
 use Rattle.op_http.proofs.length.body_length.Goals as goal
 use Rattle.op_http.proofs.length.body_length.Goals.{then-is_named+in-Some, else-is_named}

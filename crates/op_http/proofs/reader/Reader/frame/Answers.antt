@@ -1,4 +1,4 @@
-use Rattle.std.proofs.Common.{◌≡◌, ℕ, List, Result, IfOk, take, ap, ◌∙◌}
+use Rattle.std.proofs.Common.{ap, ◌∙◌}
 use Rattle.op_http.specs.Held.{Held}
 use Rattle.op_http.proofs.Reading.{is_framed_if}
 use Rattle.op_http.proofs.reader.Reader.frame.Goals as goal

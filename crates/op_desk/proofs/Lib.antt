@@ -1,0 +1,9 @@
+mod Assets
+mod Batches
+mod Closing
+mod CodeText
+mod Lists
+mod Payloads
+mod Records
+mod Recovering
+mod Unique

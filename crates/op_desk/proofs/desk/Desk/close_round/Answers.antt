@@ -1,0 +1,57 @@
+use Rattle.std.proofs.Common.{◌≡◌, ◌≢◌, ◌∙◌, ◌++◌, ◌∷◌, [], ℕ, List, false, map, ap, sym, subst}
+use Rattle.op_journal.specs.Commits.{payload_of}
+use Rattle.op_model.specs.declared.act.Entry.{Entry}
+use Rattle.op_desk.specs.Batches.{DeskValue}
+use Rattle.op_desk.specs.Spelling.{records, Stands, with_round, SpellsRounds}
+use Rattle.op_desk.proofs.Closing.{stands_more, image_spells, moments_more, moments_none}
+use Rattle.op_desk.proofs.desk.Desk.close_round.Goals as goal
+
+pub returns-in_err-commit-clause-any_moment : goal.returns-in_err-commit-clause-any_moment
+returns-in_err-commit-clause-any_moment g c told rounds stands =
+    let r = c.into_round-round.ensures in
+    let tail : c.args.self.now.tail ≡ c.self.inside.journal.tail = ap (λ (v : DeskValue). v.tail) (sym c.self.view_is) in
+    let here : Stands rounds c.self.inside.journal.tail (g.D.Disk.seen c.args.disk.now) (g.D.Disk.images c.args.disk.now) = subst (λ (k : ℕ). Stands rounds k (g.D.Disk.seen c.args.disk.now) (g.D.Disk.images c.args.disk.now)) tail stands in
+    let only = c.commit.ensures.any_moment told (map records rounds) here.holds in
+    let body = c.deref.result.now in
+    let payload : payload_of body ≡ records c.args.batch.entries = ap payload_of c.deref.ensures.value ∙ r.payload in
+    let some : c.args.batch.entries ≢ [] = λ none. let no = r.empty.1 none in cc (no, c.if-not-round.false) in
+    moments_more g.D.Disk.moment g.D.Disk.since c.args.disk.now c.commit.new.disk rounds c.args.batch.entries body c.self.inside.journal.tail some here.have r.have payload only
+
+pub returns-clause-any_moment : goal.returns-clause-any_moment
+returns-clause-any_moment g c told rounds stands =
+    let r = c.into_round-round.ensures in
+    let tail : c.args.self.now.tail ≡ c.self.inside.journal.tail = ap (λ (v : DeskValue). v.tail) (sym c.self.view_is) in
+    let here : Stands rounds c.self.inside.journal.tail (g.D.Disk.seen c.args.disk.now) (g.D.Disk.images c.args.disk.now) = subst (λ (k : ℕ). Stands rounds k (g.D.Disk.seen c.args.disk.now) (g.D.Disk.images c.args.disk.now)) tail stands in
+    let only = c.commit.ensures.any_moment told (map records rounds) here.holds in
+    let body = c.deref.result.now in
+    let payload : payload_of body ≡ records c.args.batch.entries = ap payload_of c.deref.ensures.value ∙ r.payload in
+    let some : c.args.batch.entries ≢ [] = λ none. let no = r.empty.1 none in cc (no, c.if-not-round.false) in
+    moments_more g.D.Disk.moment g.D.Disk.since c.args.disk.now c.commit.new.disk rounds c.args.batch.entries body c.self.inside.journal.tail some here.have r.have payload only
+
+pub returns-clause-stands : goal.returns-clause-stands
+returns-clause-stands g c told rounds stands =
+    let r = c.into_round-round.ensures in
+    let tail : c.args.self.now.tail ≡ c.self.inside.journal.tail = ap (λ (v : DeskValue). v.tail) (sym c.self.view_is) in
+    let here : Stands rounds c.self.inside.journal.tail (g.D.Disk.seen c.args.disk.now) (g.D.Disk.images c.args.disk.now) = subst (λ (k : ℕ). Stands rounds k (g.D.Disk.seen c.args.disk.now) (g.D.Disk.images c.args.disk.now)) tail stands in
+    let e = c.in_ok-commit.ensures in
+    let body = c.deref.result.now in
+    let payload : payload_of body ≡ records c.args.batch.entries = ap payload_of c.deref.ensures.value ∙ r.payload in
+    let some : c.args.batch.entries ≢ [] = λ none. let no = r.empty.1 none in cc (no, c.if-not-round.false) in
+    let more = stands_more rounds c.args.batch.entries body c.commit.new.journal.tail (g.D.Disk.seen c.commit.new.disk) (g.D.Disk.images c.commit.new.disk) some here.have r.have payload (e.spells told (map records rounds) here.holds) (e.settled told) in
+    subst (λ (k : ℕ). Stands (with_round rounds c.args.batch.entries) k (g.D.Disk.seen c.commit.new.disk) (g.D.Disk.images c.commit.new.disk)) (sym c.take_back-2.ensures.same.0) more
+
+pub returns-clause-images : goal.returns-clause-images
+returns-clause-images g c told rounds stands x image =
+    image_spells (with_round rounds c.args.batch.entries) c.take_back-2.new.self.tail (g.D.Disk.seen c.commit.new.disk) (g.D.Disk.images c.commit.new.disk) x (returns-clause-stands g c told rounds stands) image
+
+-- ---- a round without entries
+
+pub returns-then-not-round-clause-images : goal.returns-then-not-round-clause-images
+returns-then-not-round-clause-images g c told rounds stands x image =
+    let none : c.args.batch.entries ≡ [] = c.into_round-round.ensures.empty.0 c.if-not-round.true in
+    subst (λ (round : List Entry). SpellsRounds (with_round rounds round) x) (sym none)
+    (image_spells rounds c.args.self.now.tail (g.D.Disk.seen c.args.disk.now) (g.D.Disk.images c.args.disk.now) x stands image)
+
+pub returns-then-not-round-clause-any_moment : goal.returns-then-not-round-clause-any_moment
+returns-then-not-round-clause-any_moment g c told rounds stands =
+    moments_none g.D.Disk.moment g.D.Disk.since g.D.Disk.seen g.D.Disk.images g.met.D.Disk.only_now c.args.disk.now rounds c.args.batch.entries c.args.self.now.tail stands

@@ -1,0 +1,10 @@
+pub mod Answers
+pub mod Built
+pub mod DeskInside
+pub mod Faults
+pub mod Inside
+pub mod Wallets
+pub mod Spelling
+pub mod Payloads
+pub mod Reading
+pub mod Batches

@@ -1,0 +1,52 @@
+-- What a disk spells: a history, as the records of its rounds, each round in a frame of the journal.
+use Rattle.std.specs.Prelude.{◌≡◌, ◌⊎◌, ℕ, List, [], ◌∷◌, ◌++◌, map}
+use Rattle.std.specs.List.{flat_map, AllByRecursion}
+use Rattle.op_model.specs.declared.act.Entry.{Entry}
+use Rattle.op_record.specs.Cuts.{HasRecord}
+use Rattle.op_record.specs.Records.{record_of}
+use Rattle.op_journal.specs.Commits.{IsSettled}
+use Rattle.op_journal.specs.Frames as frames
+use Rattle.op_desk.specs.Wallets.{IsSound}
+
+-- the records of entries, one after another: the payload of a round
+abbrev pub records : List Entry → List ℕ
+records entries = flat_map record_of entries
+
+-- each entry has a record
+abbrev pub HaveRecords : List Entry → Type 0
+HaveRecords entries = AllByRecursion HasRecord entries
+
+-- the entries of rounds, in order
+abbrev pub history_of : List (List Entry) → List Entry
+history_of rounds = flat_map (λ (round : List Entry). round) rounds
+
+-- Bytes spell rounds: a short disk spells none; a longer one begins with the header, and then has a frame for each round with the
+-- round's records and nothing else, up to the first gate that is not open.
+pub record SpellsRounds (rounds : List (List Entry)) (bytes : List ℕ) : Type 0 where
+  pub have : HaveRecords (history_of rounds)
+  pub frames_are : frames.Spells (map records rounds) bytes
+
+-- bytes spell a history: the entries of the rounds that they spell
+abbrev pub Spells : List Entry → List ℕ → Type 0
+Spells history bytes = (rounds : List (List Entry)) × SpellsRounds rounds bytes × (history_of rounds ≡ history)
+
+-- and that is legal, and made of acts that are built
+pub record SpellsSound (history : List Entry) (bytes : List ℕ) : Type 0 where
+  pub spells : Spells history bytes
+  pub sound : IsSound history
+
+-- The disk stands as a journal with its closed gate at the tail says: the frames in front of it are those of these rounds, and a
+-- crash leaves them and the closed gate.
+pub record Stands (rounds : List (List Entry)) (tail : ℕ) (seen : List ℕ) (images : List ℕ → Type 0) : Type 0 where
+  pub have : HaveRecords (history_of rounds)
+  pub holds : frames.Holds (map records rounds) tail seen
+  pub settled : IsSettled tail seen images
+
+-- a round with entries is one more; one without is none
+abbrev pub with_round : List (List Entry) → List Entry → List (List Entry)
+with_round rounds [] = rounds
+with_round rounds (e ∷ es) = rounds ++ (e ∷ es) ∷ []
+
+-- the old rounds, or these and the whole new one
+abbrev pub SpellsEither : List (List Entry) → List Entry → List ℕ → Type 0
+SpellsEither rounds round bytes = SpellsRounds rounds bytes ⊎ SpellsRounds (with_round rounds round) bytes
