@@ -3,6 +3,7 @@ use Rattle.std.specs.Prelude.{◌≡◌, ◌≢◌, ◌⊎◌, ◌+◌, ◌<◌,
 use Rattle.std.specs.Io.KnownBytes.{Appends, Keeps}
 use Rattle.std.specs.declared.option.Option.{Option}
 use Rattle.std.specs.declared.result.Result.{Result}
+use Rattle.op_desk.specs.Wallets.{Handles}
 use Rattle.op_http.specs.Held.{Held}
 use Rattle.op_http.specs.Reader.{stream}
 use Rattle.op_ports.specs.Clock.{AsksKnown}
@@ -22,6 +23,7 @@ use Rattle.op_model.specs.declared.reply.Reply.{Reply}
 use Rattle.op_model.specs.declared.reply.Refusal.{Refusal}
 use Rattle.op_model.specs.declared.reply.Refusal.TheVariants.{DiskFault, JournalFull}
 use Rattle.op_model.specs.declared.request.Request.{Request}
+use Rattle.op_model.specs.declared.request.Task.{Task}
 
 -- where a session stands: what the reader holds is still to be read
 abbrev pub here : List Entry → Held → World → ℕ → Standing
@@ -48,6 +50,33 @@ abbrev pub Answers : (old : List Entry) → (answer : ℕ) (word : List ℕ) →
 Answers old answer word asked reply new =
     (wanted : Bool) × ((text : List ℕ) (raw : Raw) → IsReplied old (turn_of text raw answer word wanted reply) asked new)
 
+-- ---- a round of one task
+
+-- the history that stands, where a commit that would make the new one failed
+abbrev pub tried_after : (old new : List Entry) → Final
+tried_after old new = record { stands = old; tried = new }
+
+-- the task is handled in a turn at which the clock gave this answer and this word was drawn, and its reply is written
+abbrev pub Handled : (old new : List Entry) (written written' : Option (List ℕ)) → ℕ → List ℕ → Task → Type 0
+Handled old new written written' answer word task =
+    (reply : Reply) × Handles old (moment_of_turn old answer) 0 task word reply new × Appends written written' (printed reply)
+
+-- of a round from one history to another with this text as its reply: what is written where the text is not, or not whole
+abbrev pub NotStood : (old new : List Entry) (written written' : Option (List ℕ)) → List ℕ → End → Final → Type 0
+NotStood old new written written' text ends.WriteFault final =
+    (AppendsFront written written' text × (final ≡ settled new))
+    ⊎ ((new ≢ old) × AppendsFront written written' (printed (refusal_reply old DiskFault)) × (final ≡ tried_after old new))
+    ⊎ ((new ≢ old) × AppendsFront written written' (printed (refusal_reply old JournalFull)) × (final ≡ settled old))
+NotStood old new written written' text ends.DiskFault final = (new ≢ old) × Appends written written' (printed (refusal_reply old DiskFault)) × (final ≡ tried_after old new)
+NotStood old new written written' text ends.JournalFull final = (new ≢ old) × Appends written written' (printed (refusal_reply old JournalFull)) × (final ≡ settled old)
+NotStood old new written written' text _ final = ⊥
+
+-- why a task's reply is not written whole
+abbrev pub NotHandled : (old : List Entry) (written written' : Option (List ℕ)) → ℕ → List ℕ → Task → End → Final → Type 0
+NotHandled old written written' answer word task ends.OutOfMemory final = Keeps written written' × (final ≡ settled old)
+NotHandled old written written' answer word task end final =
+    (new : List Entry) × (reply : Reply) × Handles old (moment_of_turn old answer) 0 task word reply new × NotStood old new written written' (printed reply) end final
+
 -- ---- what was meant, its reply, and how that is written
 
 -- the reply is written
@@ -65,9 +94,6 @@ abbrev pub Lost : Writing → Refusal → (old : List Entry) (written written' :
 Lost writes refusal old written written' answer word asked left final =
     (new : List Entry) × (reply : Reply) × Answers old answer word asked reply new × (new ≢ old)
     × writes written written' (printed (refusal_reply old refusal)) × (final ≡ left new)
-
-abbrev pub tried_after : (old new : List Entry) → Final
-tried_after old new = record { stands = old; tried = new }
 
 -- why the reply is not written whole
 abbrev pub NotTold : (old : List Entry) (written written' : Option (List ℕ)) → ℕ → List ℕ → Result Request Refusal → End → Final → Type 0

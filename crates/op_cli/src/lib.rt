@@ -7,8 +7,6 @@
 mod outside;
 mod program;
 mod session;
-#[cfg(test)]
-mod tests;
 mod words;
 
 pub use outside::Outside;

@@ -1,11 +1,14 @@
 //! Sessions: requests from a source, replies to a sink, and what was answered in a journal.
-ghost use Rattle.std.specs.Prelude.{◌≡◌, ◌≢◌, ◌⊎◌, ◌<◌, ◌≤◌, ◌+◌, ◌^◌, ℕ, List, IsTrue, IsSome, Ok, Err, OnOk, OnErr, IfErr};
+ghost use Rattle.std.specs.Prelude.{◌≡◌, ◌≢◌, ◌⊎◌, ◌<◌, ◌≤◌, ◌+◌, ◌^◌, ℕ, List, length, false, IsTrue, IsSome, IfSome, Err, OnOk, OnErr, IfErr};
 ghost use Rattle.std.specs.Io.KnownBytes.{Appends};
 ghost use Rattle.op_causes.specs.Causes.{Rose};
-ghost use Rattle.op_desk.specs.Built.{is_built_request};
-ghost use Rattle.op_desk.specs.Spelling.{Spells};
-ghost use Rattle.op_desk.specs.Wallets.{IsSound};
-ghost use Rattle.op_model.specs.Legal.{keeps_forms};
+ghost use Rattle.op_desk.specs.Batches.{history_in};
+ghost use Rattle.op_desk.specs.Built.{is_built_task};
+ghost use Rattle.op_desk.specs.Spelling.{Spells, Stands, history_of};
+ghost use Rattle.op_desk.specs.Wallets.{IsSound, Handles};
+ghost use Rattle.op_model.specs.History.{moment_of_turn};
+ghost use Rattle.op_model.specs.Legal.{is_proper};
+ghost use Rattle.op_model.specs.declared.act.Entry.{Entry};
 ghost use Rattle.op_model.specs.Meant.{meant};
 ghost use Rattle.op_model.specs.Printed.{is_built, is_built_refusal, printed};
 ghost use Rattle.op_model.specs.Session.{Final, Session, begun, settled};
@@ -14,14 +17,14 @@ ghost use Rattle.op_model.specs.declared.end.End.TheVariants.{ReadFault, WriteFa
 ghost use Rattle.op_ports.specs.Sink.{AppendsFront};
 ghost use Rattle.op_cli.specs.Kept.{history_at, IsReady, Leaves, Kept};
 ghost use Rattle.op_cli.specs.Told.{world_of};
-ghost use Rattle.op_cli.specs.Turns.{here, Turns, Stops, Told, NotTold, NotWritten, Replies, ReplyFails, RefusalEnds};
+ghost use Rattle.op_cli.specs.Turns.{here, Turns, Stops, Handled, NotHandled, NotStood, Told, NotTold, NotWritten, Replies, ReplyFails, RefusalEnds};
 
 use crate::outside::Outside;
 use op_api::{ApiFault, disk_fault_reply, journal_full_reply, prepare, print_reply};
-use op_desk::{Desk, RoundFault};
+use op_desk::{Batch, Desk, RoundFault};
 use op_disk::Disk;
 use op_http::{HttpFault, RawRequest, Reader, write_all};
-use op_model::{End, Refusal, Reply, Request, Task, Verdict, Word};
+use op_model::{End, Refusal, Reply, Task, Verdict, Word};
 use op_ports::{Clock, Sink, Source, Words};
 use op_time::Moment;
 use std::alloc::Global;
@@ -79,10 +82,80 @@ fn write_reply<K: Sink>(sink: &mut K, text: &[u8]) -> Result<(), End>
     }
 }
 
+/// A round of this one request: its batch, and its reply as bytes.
+#[derive(Drop)]
+struct Round {
+    batch: Batch,
+    text: Vec<u8>,
+}
+
+/// Answers a request in a round, and prints the reply. The round is not committed yet. `None` where memory was wanting.
+fn begin_round(
+    alloc: Global,
+    task: &Task,
+    answer: u64,
+    word: &Word,
+    desk: &mut Desk,
+) -> Option<Round>
+    requires whole { IsSome desk.old.wallet }
+    requires running { desk.old.closed ≡ false }
+    requires built { IsTrue (is_built_task task.now) }
+    requires proper { IsTrue (is_proper (history_at desk.old) task.now) }
+
+    ensures begun { IfSome result (λ round. (round.batch.begun ≡ history_at desk.old) × (length round.batch.entries ≤ 1)) }
+    ensures answered { IfSome result (λ round. (reply : _) × Handles (history_at desk.old) (moment_of_turn (history_at desk.old) answer) 0 task.now word.now reply (history_in round.batch)
+        × (round.text.items ≡ printed reply)) }
+    ensures running { IfSome result (λ round. (desk.new.closed ≡ false) × (desk.new.tail ≡ desk.old.tail)) }
+{
+    let t = desk.wallet().last().later(Moment::at_most_last(answer));
+    let Ok(mut batch) = desk.begin(alloc, t, 1) else {
+        return None;
+    };
+    let reply = batch.act(word, 0, task);
+    match print_reply(alloc, &reply) {
+        Ok(text) => Some(Round { batch, text }),
+        Err(_) => None,
+    }
+}
+
+/// Commits a round, and writes its reply once it stands, or that it does not.
+fn end_round<D: Disk, K: Sink>(
+    round: Round,
+    desk: &mut Desk,
+    disk: &mut D,
+    sink: &mut K,
+) -> Result<(), End>
+    requires running { desk.old.closed ≡ false }
+    requires one { length round.batch.entries ≤ 1 }
+    requires stands { IsTrue D.tells → (rounds : List (List Entry)) × (history_of rounds ≡ round.batch.begun) × Stands rounds desk.old.tail (D.seen disk.old) (D.images disk.old) }
+    requires spelled { IsTrue D.tells → (c : List ℕ) → D.images disk.old c → Spells round.batch.begun c }
+    requires sound { IsSound round.batch.begun }
+
+    ensures whole { OnOk result (history_at desk.new ≡ history_in round.batch) }
+    ensures ready { OnOk result (IsReady D.tells desk.new (D.seen disk.new) (D.images disk.new)) }
+    ensures told { OnOk result (Appends (K.written sink.old) (K.written sink.new) round.text.items) }
+    ensures stands { OnOk result (Leaves D.tells D.moment D.since D.images D.faults round.batch.begun (settled (history_in round.batch)) disk.old disk.new) }
+    ensures err { IfErr result (λ end. (final : Final) × NotStood round.batch.begun (history_in round.batch) (K.written sink.old) (K.written sink.new) round.text.items end final
+        × Leaves D.tells D.moment D.since D.images D.faults round.batch.begun final disk.old disk.new) }
+    ensures disk_cause { result ≡ Err DiskFault → Rose (D.faults disk.old) (D.faults disk.new) }
+    ensures disk_kept { result ≢ Err DiskFault → result ≢ Err WriteFault → D.faults disk.new ≡ D.faults disk.old }
+    ensures write_cause { result ≡ Err WriteFault → Rose (K.faults sink.old) (K.faults sink.new) }
+    ensures write_kept { result ≢ Err WriteFault → K.faults sink.new ≡ K.faults sink.old }
+{
+    let Round { batch, text } = round;
+    match desk.close_round(disk, batch) {
+        Ok(_) => write_reply(sink, &text),
+        Err(RoundFault::DiskFault) => Err(write_last(sink, disk_fault_reply(), End::DiskFault)),
+        Err(RoundFault::Full { .. }) => {
+            Err(write_last(sink, journal_full_reply(), End::JournalFull))
+        }
+    }
+}
+
 /// Runs a round of this one request, and writes its reply once its act stands.
 fn run_round<D: Disk, K: Sink>(
     alloc: Global,
-    request: Request,
+    task: &Task,
     answer: u64,
     word: &Word,
     desk: &mut Desk,
@@ -90,37 +163,23 @@ fn run_round<D: Disk, K: Sink>(
     sink: &mut K,
 ) -> Result<(), End>
     requires ready { IsReady D.tells desk.old (D.seen disk.old) (D.images disk.old) }
-    requires built { IsTrue (is_built_request request) }
-    requires forms { IsTrue (keeps_forms request) }
+    requires sound { IsSound (history_at desk.old) }
+    requires built { IsTrue (is_built_task task.now) }
+    requires proper { IsTrue (is_proper (history_at desk.old) task.now) }
 
-    ensures ok { OnOk result (Told (history_at desk.old) (history_at desk.new) (K.written sink.old) (K.written sink.new) answer word.now (Ok request)) }
+    ensures ok { OnOk result (Handled (history_at desk.old) (history_at desk.new) (K.written sink.old) (K.written sink.new) answer word.now task.now) }
     ensures ready { OnOk result (IsReady D.tells desk.new (D.seen disk.new) (D.images disk.new)) }
     ensures stands { OnOk result (Leaves D.tells D.moment D.since D.images D.faults (history_at desk.old) (settled (history_at desk.new)) disk.old disk.new) }
-    ensures err { IfErr result (λ end. (final : Final) × NotTold (history_at desk.old) (K.written sink.old) (K.written sink.new) answer word.now (Ok request) end final
+    ensures err { IfErr result (λ end. (final : Final) × NotHandled (history_at desk.old) (K.written sink.old) (K.written sink.new) answer word.now task.now end final
         × Leaves D.tells D.moment D.since D.images D.faults (history_at desk.old) final disk.old disk.new) }
     ensures disk_cause { result ≡ Err DiskFault → Rose (D.faults disk.old) (D.faults disk.new) }
     ensures disk_kept { result ≢ Err DiskFault → result ≢ Err WriteFault → D.faults disk.new ≡ D.faults disk.old }
     ensures write_cause { result ≡ Err WriteFault → Rose (K.faults sink.old) (K.faults sink.new) }
     ensures write_kept { result ≢ Err WriteFault → K.faults sink.new ≡ K.faults sink.old }
 {
-    let t = desk.wallet().last().later(Moment::at_most_last(answer));
-    let Ok(mut batch) = desk.begin(alloc, t, 1) else {
-        return Err(End::OutOfMemory);
-    };
-    let task = Task::Ask {
-        request,
-        verdict: nobody(),
-    };
-    let reply = batch.act(word, 0, &task);
-    let Ok(text) = print_reply(alloc, &reply) else {
-        return Err(End::OutOfMemory);
-    };
-    match desk.close_round(disk, batch) {
-        Ok(_) => write_reply(sink, &text),
-        Err(RoundFault::DiskFault) => Err(write_last(sink, disk_fault_reply(), End::DiskFault)),
-        Err(RoundFault::Full { .. }) => {
-            Err(write_last(sink, journal_full_reply(), End::JournalFull))
-        }
+    match begin_round(alloc, task, answer, word, desk) {
+        Some(round) => end_round(round, desk, disk, sink),
+        None => Err(End::OutOfMemory),
     }
 }
 
@@ -169,7 +228,13 @@ fn answer_one<D: Disk, K: Sink>(
     ensures write_kept { result ≢ Err WriteFault → K.faults sink.new ≡ K.faults sink.old }
 {
     match prepare(alloc, raw) {
-        Ok(request) => run_round(alloc, request, answer, word, desk, disk, sink),
+        Ok(request) => {
+            let task = Task::Ask {
+                request,
+                verdict: nobody(),
+            };
+            run_round(alloc, &task, answer, word, desk, disk, sink)
+        }
         Err(ApiFault::Refused(refusal)) => refuse_one(alloc, refusal, desk, sink),
         Err(ApiFault::Memory) => refuse_one(alloc, Refusal::Memory, desk, sink),
     }
@@ -262,7 +327,6 @@ pub fn session<D: Disk, S: Source, K: Sink, C: Clock, W: Words>(
 ) -> End
     requires ready { IsReady D.tells desk (D.seen outside.old.disk) (D.images outside.old.disk) }
     requires sound { IsSound (history_at desk) }
-    requires spelled { IsTrue D.tells → (c : List ℕ) → D.images outside.old.disk c → Spells (history_at desk) c }
 
     ensures session { (final : Final) × Session (begun (history_at desk) (world_of S.left C.answers W.words K.written outside.old)) (world_of S.left C.answers W.words K.written outside.new) result final
         × Kept D.tells D.moment D.since D.images D.faults (history_at desk) final outside.old.disk outside.new.disk }
