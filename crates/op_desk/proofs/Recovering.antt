@@ -78,9 +78,9 @@ pub frame_opens : (gate : ℕ) (payload bytes : List ℕ) → IsFrameAt gate pay
 frame_opens gate payload bytes found = (
   omega (arith, found.gate),
   (
-    let zero_more : gate + 0 ≡ gate = omega arith in
-    ap (λ (k : ℕ). get_or bytes k 0) (sym zero_more) ∙ sym (get_or-drop gate bytes 0 0) ∙ sym (get_or-take (5 + length payload) (drop gate bytes) 0 0 (omega arith)) ∙ ap (λ (l : List ℕ). get_or l 0 0) found.stands
-  ),
+      let zero_more : gate + 0 ≡ gate = omega arith in
+      ap (λ (k : ℕ). get_or bytes k 0) (sym zero_more) ∙ sym (get_or-drop gate bytes 0 0) ∙ sym (get_or-take (5 + length payload) (drop gate bytes) 0 0 (omega arith)) ∙ ap (λ (l : List ℕ). get_or l 0 0) found.stands
+      ),
 )
 
 pub read_to : (old seen : List ℕ) (images : List ℕ → Type 0) (size gate : ℕ) (history : List Entry) (read : HasRead old seen images size gate history) → IsSound history → IsOpen gate seen → IsReadTo (read.rounds) gate old × (seen ≡ old)

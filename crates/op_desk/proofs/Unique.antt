@@ -199,8 +199,7 @@ walk_from bytes pre (round ∷ rounds) p q size front inside within some =
     let split : bytes ≡ pre ++ (f ++ (rest ++ drop q bytes)) = (
     sym (take-append-drop q bytes) ∙ ap (λ (l : List ℕ). l ++ drop q bytes) front ∙ append_assoc pre (f ++ rest) (drop q bytes) ∙ ap (λ (l : List ℕ). pre ++ l) (append_assoc f rest (drop q bytes))
     ) in
-    let behind : drop p bytes ≡ f ++ (rest ++ drop q bytes) = ap (λ (k : ℕ). drop k bytes) (sym size) ∙ ap (λ (l : List ℕ). drop (length pre) l) split ∙ drop-append_seam pre (f ++ (rest ++ drop q bytes)) in
-    (
+    let behind : drop p bytes ≡ f ++ (rest ++ drop q bytes) = ap (λ (k : ℕ). drop k bytes) (sym size) ∙ ap (λ (l : List ℕ). drop (length pre) l) split ∙ drop-append_seam pre (f ++ (rest ++ drop q bytes)) in (
       record {
         stands = ap (λ (l : List ℕ). take (5 + n) l) behind ∙ take_at f (rest ++ drop q bytes) (5 + n) f_size;
         some = some zero [] (omega arith);

@@ -22,8 +22,7 @@ returns-clause-begun c =
     let sound = c.self.invariant.sound c.in-Some.wallet c.in-Some.is in
     let view = ap (λ (v : DeskValue). v.wallet) c.self.view_is in
     let moved : c.reserve-in-Some.new.self ≡ c.in-Some-take.wallet = cc (c.take.ensures.value, c.in-Some-take.is) in
-    let begun = sym same ∙ ap (λ (w : WalletValue). w.history) moved ∙ sym (ap (λ (v : BatchValue). v.begun) c.new.ensures) in
-    (
+    let begun = sym same ∙ ap (λ (w : WalletValue). w.history) moved ∙ sym (ap (λ (v : BatchValue). v.begun) c.new.ensures) in (
       (c.in-Some.wallet.spare, sym view ∙ c.in-Some.is ∙ ap (λ (h : List Entry). let w : WalletValue = record { history = h; spare = c.in-Some.wallet.spare } in Some w) begun),
       subst IsSound begun sound,
     )
