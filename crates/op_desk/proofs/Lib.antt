@@ -6,4 +6,4 @@ pub mod Lists
 mod Payloads
 pub mod Records
 pub mod Recovering
-mod Unique
+pub mod Unique

@@ -1,7 +1,6 @@
 use Rattle.std.proofs.Common.{◌≡◌, ◌∙◌, List, ap, sym, subst}
 use Rattle.op_model.specs.declared.act.Entry.{Entry}
 use Rattle.std.specs.Prelude.{Some, IsSome}
-use Rattle.std.specs.declared.option.Option.{Option}
 use Rattle.op_desk.specs.Batches.{BatchValue, DeskValue}
 use Rattle.op_desk.specs.Wallets.{WalletValue, IsSound}
 use Rattle.op_desk.proofs.desk.Desk.begin.Goals as goal

@@ -1,16 +1,16 @@
-use Rattle.std.proofs.Common.{◌≡◌, ◌⊎◌, ◌∙◌, ◌+◌, ◌++◌, ◌∷◌, [], ⊎_elim, ℕ, List, length, map, refl, sym, ap, subst, arith, true, false}
+use Rattle.std.proofs.Common.{◌≡◌, ◌⊎◌, ◌∙◌, ◌+◌, ◌++◌, ◌∷◌, [], ⊎_elim, ℕ, List, map, refl, sym, ap, subst, arith}
 use Rattle.std.specs.Prelude.{Ok, Err, Some}
 use Rattle.op_disk.proofs.Moments.{then}
 use Rattle.op_journal.specs.Frames.{Holds, SpellsUpTo, IsFrameAt, IsBadFrame}
 use Rattle.op_journal.specs.Recovered.{IsOldOrShort}
 use Rattle.op_model.specs.declared.act.Entry.{Entry}
 use Rattle.op_desk.specs.Payloads.{IsRound}
-use Rattle.op_desk.specs.Reading.{Fails, IsFree, FailsAtFrame, FailsAtRecord, FailsAtEntry, IsBrokenAt}
+use Rattle.op_desk.specs.Reading.{Fails, IsFree, FailsAtFrame, IsBrokenAt}
 use Rattle.op_desk.specs.Spelling.{records, Stands}
 use Rattle.op_desk.specs.Wallets.{WalletValue}
 use Rattle.op_desk.specs.declared.fault.DeskFault.{DeskFault}
 use Rattle.op_desk.proofs.Closing.{image_spells}
-use Rattle.op_desk.proofs.Recovering.{HasRead, read_more, fails_at_frame, fails_at_record, fails_at_entry, begin_due, next_due, payload_due, spells_all, read_is_old}
+use Rattle.op_desk.proofs.Recovering.{read_more, fails_at_frame, fails_at_record, fails_at_entry, begin_due, next_due, payload_due, spells_all, read_is_old}
 use Rattle.op_desk.proofs.Unique.{due_where, free_where, sound_fails_not}
 use Rattle.op_desk.proofs.desk.Desk.recover.Goals as goal
 
