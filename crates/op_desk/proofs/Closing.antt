@@ -1,8 +1,7 @@
 -- What a commit leaves, as rounds.
-use Rattle.std.proofs.Common.{◌≡◌, ◌≢◌, ◌⊎◌, inl, inr, ⊎_elim, ℕ, ◌+◌, ◌≤◌, ◌<◌, List, [], ◌∷◌, ◌++◌, length, take, map, get_or, refl, sym, ap, ◌∙◌, subst, arith, length-append, length-take}
-use Rattle.std.specs.List.{All}
+use Rattle.std.proofs.Common.{◌≡◌, ◌≢◌, inl, inr, ⊎_elim, ℕ, ◌+◌, ◌≤◌, List, [], ◌∷◌, ◌++◌, length, take, map, get_or, refl, sym, ap, ◌∙◌, subst, arith, length-take}
 use Rattle.std.proofs.lemmas.Bool.{cases_lt}
-use Rattle.std.proofs.lemmas.List.{append-nil, map-append, length-take-le, get_or-take, take-take}
+use Rattle.std.proofs.lemmas.List.{get_or-take, take-take}
 use Rattle.op_disk.proofs.Moments.{started}
 use Rattle.op_disk.specs.Calls.{LeavesOnly}
 use Rattle.op_journal.specs.Commits as journal
@@ -12,6 +11,10 @@ use Rattle.op_journal.specs.Frames.{Holds, SpellsUpTo, header, frame, frames}
 use Rattle.op_model.specs.declared.act.Entry.{Entry}
 use Rattle.op_record.specs.Cuts.{HasRecord}
 use Rattle.op_desk.specs.Spelling.{records, HaveRecords, history_of, SpellsRounds, SpellsEither, Stands, with_round}
+use Rattle.std.specs.Option.{option_map_or}
+use Rattle.std.specs.declared.option.Option.{Option}
+use Rattle.op_desk.specs.Batches.{IsWhole}
+use Rattle.op_desk.specs.Wallets.{WalletValue}
 use Rattle.op_desk.proofs.Lists.{all-append}
 use Rattle.op_desk.proofs.Recovering.{history_of-next, records_of-next, gate_size, none_framed}
 
@@ -45,6 +48,10 @@ rounds_spelled rounds tail c have upto = record { have = have; frames_are = all_
 pub image_spells : (rounds : List (List Entry)) (tail : ℕ) (seen : List ℕ) (images : List ℕ → Type 0) (c : List ℕ) → Stands rounds tail seen images → images c → SpellsRounds rounds c
 image_spells rounds tail seen images c stands here =
     rounds_spelled rounds tail c stands.have (same_spells (map records rounds) tail seen c stands.holds stands.settled.closed.1 (stands.settled.alike c here))
+
+-- a desk has one history
+pub one_history : (wallet : Option WalletValue) (a b : List Entry) → IsWhole wallet a → IsWhole wallet b → a ≡ b
+one_history wallet a b x y = ap (λ (o : Option WalletValue). option_map_or (λ (w : WalletValue). w.history) o []) (sym x.1 ∙ y.1)
 
 -- ---- the new round
 

@@ -1,9 +1,9 @@
 mod Assets
-mod Batches
-mod Closing
+pub mod Batches
+pub mod Closing
 mod CodeText
-mod Lists
+pub mod Lists
 mod Payloads
-mod Records
-mod Recovering
-mod Unique
+pub mod Records
+pub mod Recovering
+pub mod Unique

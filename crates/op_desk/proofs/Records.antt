@@ -1,15 +1,14 @@
 -- Records one after another, and how long they are.
-use Rattle.std.proofs.Common.{◌≡◌, ℕ, ◌+◌, ◌≤◌, ◌<◌, List, [], ◌∷◌, ◌++◌, length, refl, sym, ap, ◌∙◌, arith}
+use Rattle.std.proofs.Common.{◌≡◌, ℕ, ◌+◌, ◌≤◌, ◌<◌, List, [], ◌∷◌, ◌++◌, length, arith}
 use Rattle.std.specs.Prelude.{IsTrue}
 use Rattle.std.proofs.lemmas.Grind.{flat_map-append}
-use Rattle.std.proofs.lemmas.List.{append-nil}
 use Rattle.op_model.specs.declared.act.Act.{Act}
 use Rattle.op_model.specs.declared.act.Act.TheVariants as acts
 use Rattle.op_model.specs.declared.act.Entry.{Entry}
 use Rattle.op_record.specs.Cuts.{HasRecord}
 use Rattle.op_record.specs.Fields.{number, text}
 use Rattle.op_record.specs.Records.{act_of, record_of}
-use Rattle.op_record.specs.Recordable.{IsRecordableAct, FitsAct}
+use Rattle.op_record.specs.Recordable.{FitsAct}
 use Rattle.op_record.proofs.LengthLaws.{length_append, length_number}
 use Rattle.op_desk.specs.Built.{is_built}
 use Rattle.op_desk.specs.Spelling.{records}

@@ -1,17 +1,14 @@
 -- Reading a journal from the front.
-use Rattle.std.proofs.Common.{◌≡◌, ◌≢◌, ◌⊎◌, inl, inr, ⊎_elim, ℕ, ◌+◌, ◌≤◌, ◌<◌, List, [], ◌∷◌, ◌++◌, length, take, drop, map, get_or, refl, sym, ap, ◌∙◌, subst, arith, length-append, append_assoc}
-use Rattle.std.specs.Prelude.{IsTrue, slice_index}
+use Rattle.std.proofs.Common.{◌≡◌, ◌≢◌, ◌⊎◌, inl, inr, ℕ, ◌+◌, ◌≤◌, ◌<◌, List, [], ◌∷◌, ◌++◌, length, drop, map, get_or, refl, sym, ap, ◌∙◌, subst, arith, length-append}
 use Rattle.std.proofs.lemmas.List.{append-nil, map-append, length-take-le, get_or-take, get_or-drop}
 use Rattle.std.proofs.lemmas.Grind.{flat_map-append}
-use Rattle.op_disk.specs.Calls.{LeavesOnly, Only}
-use Rattle.op_journal.specs.Commits.{IsSettled}
 use Rattle.op_journal.specs.Frames.{Holds, SpellsUpTo, IsFrameAt, IsBadFrame, IsOpen, header, frame, frames}
 use Rattle.op_journal.specs.Recovered.{Opened, IsFound, IsOldOrShort}
 use Rattle.op_model.specs.declared.act.Entry.{Entry}
 use Rattle.op_record.specs.Cuts.{HasRecord}
 use Rattle.op_desk.specs.Payloads.{IsRound, IsOfPayload}
 use Rattle.op_desk.specs.Reading.{IsBadHeader, IsReadTo, FailsAtFrame, FailsAtRecord, FailsAtEntry, IsBrokenAt, StopsAtEntry, Fails, IsFree}
-use Rattle.op_desk.specs.Spelling.{records, HaveRecords, history_of, Spells, SpellsRounds, Stands}
+use Rattle.op_desk.specs.Spelling.{records, HaveRecords, history_of, Spells}
 use Rattle.op_desk.specs.Wallets.{IsSound}
 use Rattle.op_journal.specs.declared.recovery.JournalFault.{JournalFault}
 use Rattle.op_journal.specs.declared.recovery.JournalFault.TheVariants as journal
@@ -60,7 +57,7 @@ pub none_framed : (payloads : List (List ℕ)) → length (frames payloads) ≤ 
 none_framed [] short = refl
 none_framed (payload ∷ payloads) short = absurd (omega (arith, short, length-append (frame payload) (frames payloads)))
 
-none_mapped : (rounds : List (List Entry)) → map records rounds ≡ [] → rounds ≡ []
+pub none_mapped : (rounds : List (List Entry)) → map records rounds ≡ [] → rounds ≡ []
 none_mapped [] none = refl
 none_mapped (round ∷ rounds) none = cc
 
@@ -78,9 +75,9 @@ pub frame_opens : (gate : ℕ) (payload bytes : List ℕ) → IsFrameAt gate pay
 frame_opens gate payload bytes found = (
   omega (arith, found.gate),
   (
-    let zero_more : gate + 0 ≡ gate = omega arith in
-    ap (λ (k : ℕ). get_or bytes k 0) (sym zero_more) ∙ sym (get_or-drop gate bytes 0 0) ∙ sym (get_or-take (5 + length payload) (drop gate bytes) 0 0 (omega arith)) ∙ ap (λ (l : List ℕ). get_or l 0 0) found.stands
-  ),
+      let zero_more : gate + 0 ≡ gate = omega arith in
+      ap (λ (k : ℕ). get_or bytes k 0) (sym zero_more) ∙ sym (get_or-drop gate bytes 0 0) ∙ sym (get_or-take (5 + length payload) (drop gate bytes) 0 0 (omega arith)) ∙ ap (λ (l : List ℕ). get_or l 0 0) found.stands
+      ),
 )
 
 pub read_to : (old seen : List ℕ) (images : List ℕ → Type 0) (size gate : ℕ) (history : List Entry) (read : HasRead old seen images size gate history) → IsSound history → IsOpen gate seen → IsReadTo (read.rounds) gate old × (seen ≡ old)

@@ -1,5 +1,5 @@
 -- Reading from the front ends in one way.
-use Rattle.std.proofs.Common.{◌≡◌, ◌≢◌, ◌⊎◌, inl, inr, ℕ, zero, suc, ◌+◌, ◌-◌, ◌≤◌, ◌<◌, ◌^◌, min, List, [], ◌∷◌, ◌++◌, length, take, drop, map, get_or, refl, sym, ap, ◌∙◌, subst, arith, append_assoc, length-append, length-take, take-append-drop}
+use Rattle.std.proofs.Common.{◌≡◌, ◌≢◌, ◌⊎◌, inl, inr, ℕ, zero, suc, ◌+◌, ◌≤◌, ◌<◌, List, [], ◌∷◌, ◌++◌, length, take, drop, map, get_or, refl, sym, ap, ◌∙◌, subst, arith, append_assoc, length-append, take-append-drop}
 use Rattle.std.specs.Prelude.{Some, None, IsTrue}
 use Rattle.std.specs.List.{All}
 use Rattle.std.specs.Int.{w32, to_be_bytes, from_be_bytes}
@@ -9,21 +9,22 @@ use Rattle.std.proofs.lemmas.List.{append-nil, drop-drop, length-take-le, take-t
 use Rattle.std.proofs.lemmas.Grind.{flat_map-append}
 use Rattle.std.proofs.lemmas.Nat.{from_be_bytes-to_be_bytes_4}
 use Rattle.std.proofs.Math.Seq.{drop-append_seam}
-use Rattle.op_journal.specs.Frames.{Holds, SpellsUpTo, IsFrameAt, IsBadFrame, size_at, header, frame, frames, limit}
+use Rattle.op_journal.specs.Frames.{Holds, IsFrameAt, IsBadFrame, size_at, header, frame, frames, limit}
 use Rattle.op_model.proofs.LegalNext.{legal-front, legal-next}
 use Rattle.op_model.specs.declared.act.Entry.{Entry}
 use Rattle.op_record.proofs.Entries.{no_record_begins_another, are_cut_one_way}
 use Rattle.op_record.specs.Cuts.{HasRecord, IsCut, IsBadAt}
 use Rattle.op_record.specs.Records.{record_of}
 use Rattle.op_desk.specs.Built.{is_built}
+use Rattle.op_desk.specs.Laws.{SpellOneListOfRounds, SpellOneHistory}
 use Rattle.op_desk.specs.Reading.{IsBadHeader, IsReadTo, IsBrokenAt, StopsAtEntry, Fails, IsFree}
 use Rattle.op_desk.specs.Spelling.{records, HaveRecords, history_of, SpellsSound}
 use Rattle.op_desk.specs.Wallets.{IsSound, IsTaken}
 use Rattle.op_desk.specs.declared.fault.DeskFault.{DeskFault}
 use Rattle.op_desk.specs.declared.fault.DeskFault.TheVariants as faults
-use Rattle.op_desk.proofs.Lists.{all-append, all-front, all-back}
-use Rattle.op_desk.proofs.Records.{records-append, record_some}
-use Rattle.op_desk.proofs.Recovering.{frame_opens, gate_size}
+use Rattle.op_desk.proofs.Lists.{all-front, all-back}
+use Rattle.op_desk.proofs.Records.{record_some}
+use Rattle.op_desk.proofs.Recovering.{frame_opens, gate_size, none_mapped}
 
 -- ---- bytes with which no record begins
 
@@ -199,8 +200,7 @@ walk_from bytes pre (round ∷ rounds) p q size front inside within some =
     let split : bytes ≡ pre ++ (f ++ (rest ++ drop q bytes)) = (
     sym (take-append-drop q bytes) ∙ ap (λ (l : List ℕ). l ++ drop q bytes) front ∙ append_assoc pre (f ++ rest) (drop q bytes) ∙ ap (λ (l : List ℕ). pre ++ l) (append_assoc f rest (drop q bytes))
     ) in
-    let behind : drop p bytes ≡ f ++ (rest ++ drop q bytes) = ap (λ (k : ℕ). drop k bytes) (sym size) ∙ ap (λ (l : List ℕ). drop (length pre) l) split ∙ drop-append_seam pre (f ++ (rest ++ drop q bytes)) in
-    (
+    let behind : drop p bytes ≡ f ++ (rest ++ drop q bytes) = ap (λ (k : ℕ). drop k bytes) (sym size) ∙ ap (λ (l : List ℕ). drop (length pre) l) split ∙ drop-append_seam pre (f ++ (rest ++ drop q bytes)) in (
       record {
         stands = ap (λ (l : List ℕ). take (5 + n) l) behind ∙ take_at f (rest ++ drop q bytes) (5 + n) f_size;
         some = some zero [] (omega arith);
@@ -210,8 +210,11 @@ walk_from bytes pre (round ∷ rounds) p q size front inside within some =
       walk_from bytes (pre ++ f) rounds (p + 5 + n) q (omega (arith, length-append pre f, f_size, size)) (front ∙ sym (append_assoc pre f rest)) inside within (λ k d low. some (suc k) d (omega (arith, low))),
     )
 
+walk_held : (bytes : List ℕ) (rounds : List (List Entry)) (gate : ℕ) → Holds (map records rounds) gate bytes → Walk bytes rounds 8 gate
+walk_held bytes rounds gate holds = walk_from bytes header rounds 8 gate refl holds.front holds.gate holds.within holds.some
+
 walk_read : (bytes : List ℕ) (rounds : List (List Entry)) (gate : ℕ) → IsReadTo rounds gate bytes → Walk bytes rounds 8 gate
-walk_read bytes rounds gate read = walk_from bytes header rounds 8 gate refl read.holds.front read.holds.gate read.holds.within read.holds.some
+walk_read bytes rounds gate read = walk_held bytes rounds gate read.holds
 
 -- one walk goes on behind another
 pub record IsFurther (bytes : List ℕ) (xs : List (List Entry)) (place : ℕ) (ys : List (List Entry)) : Type 0 where
@@ -244,6 +247,29 @@ compared bytes (x ∷ xs) (y ∷ ys) p q r hx hy wx wy =
         | inr f ↦ inr (inr (one_more bytes y ys xs x r (sym same) f))
       ]
     ]
+
+-- ---- what bytes spell
+
+pub one_spelling : SpellOneListOfRounds
+one_spelling bytes a b x y = elim x.frames_are [
+  | inl short ↦ elim y.frames_are [
+    | inl short' ↦ none_mapped a short.1 ∙ sym (none_mapped b short'.1)
+    | inr long ↦ absurd (omega (arith, short.0, long.0))
+  ]
+  | inr long ↦ elim y.frames_are [
+    | inl short ↦ absurd (omega (arith, short.0, long.0))
+    | inr long' ↦ elim (compared bytes a b 8 long.1 long'.1 x.have y.have (walk_held bytes a long.1 long.2.holds) (walk_held bytes b long'.1 long'.2.holds)) [
+      | inl same ↦ same.0
+      | inr further ↦ elim further [
+        | inl f ↦ absurd (long.2.closed (frame_opens long.1 (records f.round) bytes f.frame).1)
+        | inr f ↦ absurd (long'.2.closed (frame_opens long'.1 (records f.round) bytes f.frame).1)
+      ]
+    ]
+  ]
+]
+
+pub one_history : SpellOneHistory
+one_history bytes a b x y = sym x.2 ∙ ap history_of (one_spelling bytes x.0 y.0 x.1 y.1) ∙ y.2
 
 -- ---- how reading ends at a gate
 

@@ -1,5 +1,5 @@
 -- What a batch keeps.
-use Rattle.std.specs.Prelude.{◌≡◌, ◌+◌, ◌*◌, ◌≤◌, ℕ, List, length, take, drop, vec_len, vec_capacity}
+use Rattle.std.specs.Prelude.{◌≡◌, ◌+◌, ◌*◌, ◌≤◌, List, length, take, drop, vec_len, vec_capacity}
 use Rattle.op_model.specs.History.{last_moment}
 use Rattle.op_model.specs.declared.act.Entry.{Entry}
 use Rattle.op_desk.specs.Batches.{BatchValue, unused}

@@ -5,6 +5,7 @@ pub mod Faults
 pub mod Inside
 pub mod Wallets
 pub mod Spelling
+pub mod Laws
 pub mod Payloads
 pub mod Reading
 pub mod Batches

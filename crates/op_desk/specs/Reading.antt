@@ -1,5 +1,5 @@
 -- Where reading a journal from the front first fails: frame by frame, of each frame first its records, then the legality of its entries.
-use Rattle.std.specs.Prelude.{◌≡◌, ◌≢◌, ◌⊎◌, ◌<◌, ◌+◌, ℕ, List, [], ◌∷◌, ◌++◌, length, take, map}
+use Rattle.std.specs.Prelude.{◌≡◌, ◌≢◌, ◌⊎◌, ◌<◌, ◌+◌, ℕ, List, ◌∷◌, ◌++◌, length, take, map}
 use Rattle.op_model.specs.declared.act.Entry.{Entry}
 use Rattle.op_record.specs.Cuts.{IsCut, IsBadAt}
 use Rattle.op_journal.specs.Frames.{Holds, IsFrameAt, IsBadFrame, header}

@@ -1,12 +1,10 @@
 -- What is seen of a wallet: its history, and the room that it has for more.
-use Rattle.std.specs.Prelude.{◌≡◌, ℕ, Bool, List, [], ◌∷◌, ◌++◌, length, IsTrue}
+use Rattle.std.specs.Prelude.{ℕ, Bool, List, ◌++◌, IsTrue}
 use Rattle.std.specs.Option.{option_to_list}
 use Rattle.std.specs.declared.option.Option.{Option}
-use Rattle.op_model.specs.History.{with_act}
 use Rattle.op_model.specs.Legal.{IsNext, IsLegal}
 use Rattle.op_model.specs.Round.{Handled, IsHandledNext}
 use Rattle.op_model.specs.Turn.{NoTerms}
-use Rattle.op_model.specs.declared.act.Act.{Act}
 use Rattle.op_model.specs.declared.act.Entry.{Entry}
 use Rattle.op_model.specs.declared.reply.Reply.{Reply}
 use Rattle.op_model.specs.declared.request.Task.{Task}

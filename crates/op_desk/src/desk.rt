@@ -54,6 +54,7 @@ impl Desk {
         // The history is legal, and all that the disk spells.
         ensures whole { IfOk result (λ desk. (history : List Entry) × IsWhole desk.wallet history × IsSound history × (IsTrue D.tells → Spells history (D.seen disk.old))) }
         ensures stands { IfOk result (λ desk. IsTrue D.tells → (rounds : List (List Entry)) × IsWhole desk.wallet (history_of rounds) × Stands rounds desk.tail (D.seen disk.new) (D.images disk.new)) }
+        ensures images { IfOk result (λ desk. IsTrue D.tells → (c : List ℕ) → D.images disk.new c → (rounds : List (List Entry)) × IsWhole desk.wallet (history_of rounds) × SpellsRounds rounds c) }
         // A refusal comes where reading from the front first fails, and no such disk is opened; a legal history is.
         ensures refused { IfErr result (λ e. IsTrue D.tells → IsFree e ⊎ Fails e (D.seen disk.old)) }
         ensures refused_where { (fault : _) → IsTrue D.tells → Fails fault (D.seen disk.old) → IsErrAnd result (λ e. (e ≡ fault) ⊎ IsFree e) }

@@ -11,6 +11,7 @@
 mod batch;
 mod desk;
 mod fault;
+mod laws;
 mod payload;
 #[cfg(test)]
 mod tests;
@@ -19,6 +20,7 @@ mod wallet;
 pub use batch::{Batch, Committed};
 pub use desk::Desk;
 pub use fault::{DeskFault, LoadFault, RoundFault};
+pub use laws::disks_spell_one_history;
 pub use wallet::{Outcome, Wallet};
 
 /// The most tasks of one round.

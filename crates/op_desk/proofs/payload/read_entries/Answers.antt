@@ -1,10 +1,9 @@
-use Rattle.std.proofs.Common.{◌≡◌, ◌∙◌, ◌+◌, ◌-◌, ◌⊎◌, ℕ, List, length, drop, take, ap, sym, subst, arith}
+use Rattle.std.proofs.Common.{◌≡◌, ◌∙◌, ◌+◌, ◌⊎◌, ℕ, List, length, ap, sym, subst, arith}
 use Rattle.std.specs.Prelude.{Err}
-use Rattle.op_model.specs.declared.act.Entry.{Entry}
 use Rattle.op_record.specs.Cuts.{IsFound, IsCut, IsBadAt}
 use Rattle.op_desk.specs.declared.fault.DeskFault.TheVariants.{BadRecord}
 use Rattle.op_desk.specs.Spelling.{records, HaveRecords}
-use Rattle.op_desk.proofs.Payloads.{OneMore, one_more, broken_here, behind_is}
+use Rattle.op_desk.proofs.Payloads.{one_more, broken_here, behind_is}
 use Rattle.op_desk.proofs.payload.read_entries.Goals as goal
 
 pub returns-in-Err-clause-broken : goal.returns-in-Err-clause-broken

@@ -1,4 +1,4 @@
-use Rattle.std.proofs.Common.{◌≡◌, ap, arith, inr}
+use Rattle.std.proofs.Common.{ap, arith, inr}
 use Rattle.std.specs.Prelude.{Err}
 use Rattle.op_desk.proofs.payload.read_next.Goals as goal
 

@@ -1,6 +1,5 @@
 use Rattle.std.proofs.Common.{◌≡◌, ℕ, List, Bool, true, false, Some, None, refl, if◌then◌else◌}
 use Rattle.std.specs.Str.{IsUtf8}
-use Rattle.std.specs.declared.option.Option.{Option}
 use Rattle.op_amount.specs.Code.{is_asset_code}
 use Rattle.op_desk.proofs.CodeText.{code_is_text}
 use Rattle.op_desk.proofs.wallet.code_of.Goals as goal

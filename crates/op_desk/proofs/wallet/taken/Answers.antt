@@ -18,8 +18,7 @@ returns-clause-yes c =
     let a = c.in-AssetAdded in
     let both = some_code c.as_bytes.result.now c.in-Some.asset_code (sym c.in-Some.is ∙ c.code_of.ensures) in
     let valid = subst (λ (k : List ℕ). is_asset_code k ≡ true) c.as_bytes.ensures.value both.0 in
-    let may = ap (λ (k : List ℕ). may_add c.args.entries.now c.args.entry.now.at (record { code = k; scale = a.scale }) a.pieces) (sym (both.1 ∙ c.as_bytes.ensures.value)) ∙ (sym c.may_add.ensures ∙ c.if-not-may_add.false) in
-    (
+    let may = ap (λ (k : List ℕ). may_add c.args.entries.now c.args.entry.now.at (record { code = k; scale = a.scale }) a.pieces) (sym (both.1 ∙ c.as_bytes.ensures.value)) ∙ (sym c.may_add.ensures ∙ c.if-not-may_add.false) in (
       ap (λ (act : Act). let e : Entry = record { at = c.args.entry.now.at; act = act } in e) (sym a.is),
       taken_where c.args.entries.now c.args.entry.now a.code a.scale a.pieces a.is valid c.ms-at_most_last.ensures.bound may,
     )

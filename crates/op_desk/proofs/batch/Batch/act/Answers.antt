@@ -1,4 +1,4 @@
-use Rattle.std.proofs.Common.{◌≡◌, ◌∙◌, ◌++◌, ◌-◌, ℕ, List, length, drop, take, ap, sym, subst, arith, length-drop, take-append-drop}
+use Rattle.std.proofs.Common.{◌≡◌, ◌∙◌, ◌++◌, ◌-◌, ℕ, List, length, ap, sym, subst, take-append-drop}
 use Rattle.std.specs.Prelude.{Bool, slice_get}
 use Rattle.std.specs.Option.{option_to_list}
 use Rattle.op_model.specs.declared.act.Entry.{Entry}
@@ -35,8 +35,7 @@ returns-clause-handled c =
 pub returns-clause-entries : goal.returns-clause-entries
 returns-clause-entries c =
     let b = c.self.inside in
-    let old = ap (λ (v : BatchValue). v.entries) c.self.view_is in
-    (
+    let old = ap (λ (v : BatchValue). v.entries) c.self.view_is in (
       c.answer-outcome.result.entry,
       behind_next b.wallet.history c.answer-outcome.new.self.history b.begun c.answer-outcome.result.entry c.self.invariant.begun c.answer-outcome.ensures.entry ∙ ap (λ (l : List Entry). l ++ option_to_list c.answer-outcome.result.entry) old,
     )

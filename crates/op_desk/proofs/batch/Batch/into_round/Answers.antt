@@ -1,5 +1,4 @@
-use Rattle.std.proofs.Common.{◌≡◌, ◌∙◌, ap, arith, length-drop}
-use Rattle.std.proofs.lemmas.Bool.Decides.{nat_tests}
+use Rattle.std.proofs.Common.{◌∙◌, ap, arith, length-drop}
 use borrow.Author.Tests.{ltb-true}
 use Rattle.op_desk.specs.Batches.{BatchValue}
 use Rattle.op_desk.specs.Inside.{entries_of}

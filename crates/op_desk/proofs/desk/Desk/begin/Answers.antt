@@ -1,7 +1,6 @@
 use Rattle.std.proofs.Common.{◌≡◌, ◌∙◌, List, ap, sym, subst}
 use Rattle.op_model.specs.declared.act.Entry.{Entry}
 use Rattle.std.specs.Prelude.{Some, IsSome}
-use Rattle.std.specs.declared.option.Option.{Option}
 use Rattle.op_desk.specs.Batches.{BatchValue, DeskValue}
 use Rattle.op_desk.specs.Wallets.{WalletValue, IsSound}
 use Rattle.op_desk.proofs.desk.Desk.begin.Goals as goal
@@ -22,8 +21,7 @@ returns-clause-begun c =
     let sound = c.self.invariant.sound c.in-Some.wallet c.in-Some.is in
     let view = ap (λ (v : DeskValue). v.wallet) c.self.view_is in
     let moved : c.reserve-in-Some.new.self ≡ c.in-Some-take.wallet = cc (c.take.ensures.value, c.in-Some-take.is) in
-    let begun = sym same ∙ ap (λ (w : WalletValue). w.history) moved ∙ sym (ap (λ (v : BatchValue). v.begun) c.new.ensures) in
-    (
+    let begun = sym same ∙ ap (λ (w : WalletValue). w.history) moved ∙ sym (ap (λ (v : BatchValue). v.begun) c.new.ensures) in (
       (c.in-Some.wallet.spare, sym view ∙ c.in-Some.is ∙ ap (λ (h : List Entry). let w : WalletValue = record { history = h; spare = c.in-Some.wallet.spare } in Some w) begun),
       subst IsSound begun sound,
     )

@@ -1,4 +1,4 @@
-use Rattle.std.proofs.Common.{◌≡◌, ◌≢◌, ◌∙◌, ◌++◌, ◌∷◌, [], ℕ, List, false, map, ap, sym, subst}
+use Rattle.std.proofs.Common.{◌≡◌, ◌≢◌, ◌∙◌, [], ℕ, List, map, ap, sym, subst}
 use Rattle.op_journal.specs.Commits.{payload_of}
 use Rattle.op_model.specs.declared.act.Entry.{Entry}
 use Rattle.op_desk.specs.Batches.{DeskValue}

@@ -1,14 +1,16 @@
-use Rattle.std.proofs.Common.{◌≡◌, ◌⊎◌, ◌∙◌, ◌+◌, ◌++◌, ◌∷◌, [], ⊎_elim, ℕ, List, length, map, refl, sym, ap, subst, arith, true, false}
+use Rattle.std.proofs.Common.{◌≡◌, ◌⊎◌, ◌∙◌, ◌+◌, ◌++◌, ◌∷◌, [], ⊎_elim, ℕ, List, map, refl, sym, ap, subst, arith}
 use Rattle.std.specs.Prelude.{Ok, Err, Some}
 use Rattle.op_disk.proofs.Moments.{then}
 use Rattle.op_journal.specs.Frames.{Holds, SpellsUpTo, IsFrameAt, IsBadFrame}
 use Rattle.op_journal.specs.Recovered.{IsOldOrShort}
 use Rattle.op_model.specs.declared.act.Entry.{Entry}
 use Rattle.op_desk.specs.Payloads.{IsRound}
-use Rattle.op_desk.specs.Reading.{Fails, IsFree, FailsAtFrame, FailsAtRecord, FailsAtEntry, IsBrokenAt}
-use Rattle.op_desk.specs.Spelling.{records}
+use Rattle.op_desk.specs.Reading.{Fails, IsFree, FailsAtFrame, IsBrokenAt}
+use Rattle.op_desk.specs.Spelling.{records, Stands}
+use Rattle.op_desk.specs.Wallets.{WalletValue}
 use Rattle.op_desk.specs.declared.fault.DeskFault.{DeskFault}
-use Rattle.op_desk.proofs.Recovering.{HasRead, read_more, fails_at_frame, fails_at_record, fails_at_entry, begin_due, next_due, payload_due, spells_all, read_is_old}
+use Rattle.op_desk.proofs.Closing.{image_spells}
+use Rattle.op_desk.proofs.Recovering.{read_more, fails_at_frame, fails_at_record, fails_at_entry, begin_due, next_due, payload_due, spells_all, read_is_old}
 use Rattle.op_desk.proofs.Unique.{due_where, free_where, sound_fails_not}
 use Rattle.op_desk.proofs.desk.Desk.recover.Goals as goal
 
@@ -30,10 +32,10 @@ returns-in-Err-next_frame-clause-refused g c told =
     let images = g.D.Disk.images c.loop-frame.disk in
     let e = c.in-Err-next_frame in
     let due = next_due old e.fault e.ensures.refusals (λ at is.
-        let h = e.ensures.bad_frame at (ap Err is) in
-        let here = h.0 ∙ inv.at in
-        let bad = subst (λ (k : ℕ). IsBadFrame k seen) here (h.1 told) in
-        subst (λ (k : ℕ). FailsAtFrame old k) (sym here) (fails_at_frame old seen images c.loop-frame.recovery.length c.loop-frame.gate c.loop-frame.wallet.history (inv.read told) inv.sound bad)) in
+    let h = e.ensures.bad_frame at (ap Err is) in
+    let here = h.0 ∙ inv.at in
+    let bad = subst (λ (k : ℕ). IsBadFrame k seen) here (h.1 told) in
+    subst (λ (k : ℕ). FailsAtFrame old k) (sym here) (fails_at_frame old seen images c.loop-frame.recovery.length c.loop-frame.gate c.loop-frame.wallet.history (inv.read told) inv.sound bad)) in
     subst (λ (x : DeskFault). IsFree x ⊎ Fails x old) (sym c.from-in-Err-next_frame.ensures) due
 
 pub returns-in-Err-next_frame-clause-refused_where : goal.returns-in-Err-next_frame-clause-refused_where
@@ -61,8 +63,7 @@ returns-then-not-more-clause-whole g c =
     let seen = g.D.Disk.seen c.loop-frame.disk in
     let images = g.D.Disk.images c.loop-frame.disk in
     let e = c.in-Ok-next_frame.ensures in
-    let no = ap Ok c.if-not-more.true in
-    (
+    let no = ap Ok c.if-not-more.true in (
       c.loop-frame.wallet.history,
       (c.loop-frame.wallet.spare, refl),
       inv.sound,
@@ -79,6 +80,21 @@ returns-then-not-more-clause-refused_where g c fault told fails =
     let whole = returns-then-not-more-clause-whole g c in
     sound_fails_not (g.D.Disk.seen c.args.disk.now) whole.0 fault (record { spells = whole.3 told; sound = whole.2 }) fails
 
+pub returns-then-not-more-clause-images : goal.returns-then-not-more-clause-images
+returns-then-not-more-clause-images g c told x image =
+    let inv = c.loop-frame.invariant in
+    let seen = g.D.Disk.seen c.loop-frame.disk in
+    let e = c.in-Ok-next_frame.ensures in
+    let no = ap Ok c.if-not-more.true in
+    let read = inv.read told in
+    let payloads = map records read.rounds in
+    let upto = e.spells no told payloads (subst (λ (k : ℕ). Holds payloads k seen) (sym inv.at) read.holds) in
+    let stands : Stands (read.rounds) c.next_frame.new.self.at (g.D.Disk.seen c.next_frame.new.disk) (g.D.Disk.images c.next_frame.new.disk) = record { have = read.have; holds = upto.holds; settled = e.settled no told } in (
+      read.rounds,
+      (c.loop-frame.wallet.spare, ap (λ (h : List Entry). let w : WalletValue = record { history = h; spare = c.loop-frame.wallet.spare } in Some w) (sym read.is)),
+      image_spells read.rounds c.next_frame.new.self.at (g.D.Disk.seen c.next_frame.new.disk) (g.D.Disk.images c.next_frame.new.disk) x stands image,
+    )
+
 -- ---- a refusal of a payload
 
 pub returns-in-Err-load_payload-clause-refused : goal.returns-in-Err-load_payload-clause-refused
@@ -94,11 +110,11 @@ returns-in-Err-load_payload-clause-refused g c told =
     let e = c.in-Err-load_payload in
     payload_due old e.fault e.ensures.refusals
     (λ at is.
-        let h = e.ensures.broken at (ap Err is) in
-        fails_at_record old seen images c.loop-frame.recovery.length c.loop-frame.gate at h.0 c.loop-frame.wallet.history payload (inv.read told) inv.sound found (subst (λ (p : List ℕ). IsBrokenAt p h.0) same h.1) h.2)
+    let h = e.ensures.broken at (ap Err is) in
+    fails_at_record old seen images c.loop-frame.recovery.length c.loop-frame.gate at h.0 c.loop-frame.wallet.history payload (inv.read told) inv.sound found (subst (λ (p : List ℕ). IsBrokenAt p h.0) same h.1) h.2)
     (λ number is.
-        let h = e.ensures.illegal number (ap Err is) in
-        fails_at_entry old seen images c.loop-frame.recovery.length c.loop-frame.gate number c.loop-frame.wallet.history h.0 payload (inv.read told) inv.sound found h.1 (sym same ∙ h.2) h.3)
+    let h = e.ensures.illegal number (ap Err is) in
+    fails_at_entry old seen images c.loop-frame.recovery.length c.loop-frame.gate number c.loop-frame.wallet.history h.0 payload (inv.read told) inv.sound found h.1 (sym same ∙ h.2) h.3)
 
 pub returns-in-Err-load_payload-clause-refused_where : goal.returns-in-Err-load_payload-clause-refused_where
 returns-in-Err-load_payload-clause-refused_where g c fault told fails =

@@ -1,4 +1,4 @@
-use Rattle.std.proofs.Common.{◌≡◌, ◌∙◌, ◌++◌, ◌∷◌, ◌≤◌, [], List, true, false, sym, ap, subst}
+use Rattle.std.proofs.Common.{◌≡◌, ◌∙◌, ◌++◌, ◌∷◌, ◌≤◌, [], List, false, sym, ap, subst}
 use Rattle.std.specs.List.{list_any}
 use Rattle.op_model.specs.History.{last_moment}
 use Rattle.op_model.specs.declared.act.Entry.{Entry}

@@ -1,4 +1,4 @@
-use Rattle.std.proofs.Common.{◌≡◌, ◌∙◌, List, sym, ap, subst}
+use Rattle.std.proofs.Common.{◌≡◌, ◌∙◌, sym, ap, subst}
 use Rattle.op_model.specs.declared.request.Request.{Request}
 use Rattle.op_model.specs.declared.request.Request.TheVariants.{AddAsset}
 use Rattle.op_model.specs.declared.request.Task.{Task}

@@ -1,4 +1,4 @@
-use Rattle.std.proofs.Common.{◌≡◌, ◌∙◌, ◌++◌, ◌∷◌, [], List, sym, ap, subst}
+use Rattle.std.proofs.Common.{◌∙◌, ◌++◌, ◌∷◌, [], List, sym, ap, subst}
 use Rattle.op_model.specs.declared.act.Entry.{Entry}
 use Rattle.op_desk.specs.Wallets.{IsTaken}
 use Rattle.op_desk.proofs.Assets.{loaded}
