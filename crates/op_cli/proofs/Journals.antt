@@ -1,16 +1,19 @@
 -- What rounds leave on a disk, one after another.
-use Rattle.std.proofs.Common.{◌≡◌, ◌≢◌, ◌≤◌, ◌<◌, ◌+◌, ◌-◌, ◌*◌, ◌⊎◌, ℕ, Bool, List, [], ◌∷◌, ◌++◌, length, take, IsTrue, refl, sym, ap, subst, ◌∙◌, inl, inr, arith, append_assoc, length-append, nat_le}
+use Rattle.std.proofs.Common.{◌≡◌, ◌≢◌, ◌≤◌, ◌<◌, ◌+◌, ◌-◌, ◌*◌, ◌⊎◌, ℕ, Bool, List, [], ◌∷◌, ◌++◌, length, take, IsTrue, IsSome, Some, None, refl, sym, ap, subst, ◌∙◌, inl, inr, arith, append_assoc, length-append, nat_le}
+use Rattle.std.specs.Option.{option_map_or}
+use Rattle.std.specs.declared.option.Option.{Option}
 use Rattle.std.proofs.lemmas.Bool.{cases_Bool, leb-true, leb-false}
 use Rattle.std.proofs.lemmas.List.{take-append-le, append-nil}
 use Rattle.std.proofs.lemmas.List.Concat.{flat_map-append}
 use Rattle.std.proofs.Math.Seq.{take-length}
 use Rattle.op_causes.specs.Causes.{Rose}
-use Rattle.op_desk.specs.Spelling.{Spells, SpellsRounds, SpellsEither, history_of, with_round}
-use Rattle.op_desk.specs.Wallets.{IsSound}
+use Rattle.op_desk.specs.Batches.{DeskValue, IsWhole}
+use Rattle.op_desk.specs.Spelling.{Spells, SpellsRounds, SpellsEither, Stands, history_of, with_round}
+use Rattle.op_desk.specs.Wallets.{WalletValue, IsSound, with_entry}
 use Rattle.op_disk.specs.Calls.{LeavesOnly}
 use Rattle.op_model.specs.Session.{Final, settled}
 use Rattle.op_model.specs.declared.act.Entry.{Entry}
-use Rattle.op_cli.specs.Kept.{SpellsAtLeast, GoesOn, Lasts, Leaves, Stood, Kept}
+use Rattle.op_cli.specs.Kept.{SpellsAtLeast, GoesOn, Lasts, Leaves, Stood, Kept, IsReady, history_at}
 
 -- ---- histories and those that begin them
 
@@ -116,9 +119,9 @@ module _ {D : Type 0} (tells : Bool) (moment : D → ℕ) (since : D → ℕ →
   -- the round failed on the disk
   pub leaves_failed : (counts_now : (disk : D) (t : ℕ) (c : List ℕ) → t ≤ moment disk → images disk c → since disk t c) (before round : List Entry) (old new : D) → length round ≤ 1 → round ≢ [] → IsSound (before ++ round)
       → (IsTrue tells → (rounds : List (List Entry)) × (history_of rounds ≡ before) × LeavesOnly moment since old new (SpellsEither rounds round))
-      → Rose (faults old) (faults new) → moment old ≤ moment new → moment new ≤ moment old + 4 → Leaves tells moment since images faults before (record { stands = before; tried = before ++ round }) old new
-  leaves_failed counts_now before [] old new one some sound stands rose later most = absurd (some refl)
-  leaves_failed counts_now before (e ∷ es) old new one some sound stands rose later most =
+      → Rose (faults old) (faults new) → moment new ≤ moment old + 4 → Leaves tells moment since images faults before (record { stands = before; tried = before ++ round }) old new
+  leaves_failed counts_now before [] old new one some sound stands rose most = absurd (some refl)
+  leaves_failed counts_now before (e ∷ es) old new one some sound stands rose most =
       record {
         goes_on = record { more = []; stands = sym (append-nil before); rest = e ∷ es; tried = refl; one = one };
         sound = sound;
@@ -127,11 +130,47 @@ module _ {D : Type 0} (tells : Bool) (moment : D → ℕ) (since : D → ℕ →
             let s = stands told in
             record {
               leaves = leaves_map moment since old new (SpellsEither s.0 (e ∷ es)) _ (λ c. spells_either s.0 before (e ∷ es) c s.1) s.2;
-              at_end = λ c image. spells_either s.0 before (e ∷ es) c s.1 (s.2.each c (counts_now new (moment old) c later image));
-              least = omega (arith, later);
+              at_end = λ c image. spells_either s.0 before (e ∷ es) c s.1 (s.2.each c (counts_now new (moment old) c s.2.later image));
+              least = omega (arith, s.2.later);
               most = omega (arith, most, length-append before (e ∷ es));
             };
       }
+
+-- ---- desks
+
+pub whole_some : (wallet : Option WalletValue) (history : List Entry) → IsWhole wallet history → IsSome wallet
+whole_some wallet history (spare, is) = rw is refl
+
+pub whole_is : (desk : DeskValue) (history : List Entry) → IsWhole desk.wallet history → history_at desk ≡ history
+whole_is desk history (spare, is) = ap (λ (w : Option WalletValue). option_map_or (λ w. w.history) w []) is
+
+pub wallet_is : (desk : DeskValue) (w : WalletValue) → desk.wallet ≡ Some w → history_at desk ≡ w.history
+wallet_is desk w is = ap (λ (x : Option WalletValue). option_map_or (λ y. y.history) x []) is
+
+pub one_entry : (entry : Option Entry) → length (with_entry [] entry) ≤ 1
+one_entry None = omega arith
+one_entry (Some e) = omega arith
+
+pub more_differs : (before round : List Entry) → round ≢ [] → before ++ round ≢ before
+more_differs before [] some same = some refl
+more_differs before (e ∷ es) some same = absurd (omega (arith, ap length same, length-append before (e ∷ es)))
+
+module _ {D : Type 0} (tells : Bool) (seen : D → List ℕ) (images : D → List ℕ → Type 0) where
+  -- the desk is ready behind a round that stands
+  pub ready_behind : (desk : DeskValue) (before round : List Entry) (tail : ℕ) (old new : D) → IsWhole desk.wallet (before ++ round)
+      → (IsTrue tells → (rounds : List (List Entry)) × (history_of rounds ≡ before) × Stands rounds tail (seen old) (images old))
+      → (IsTrue tells → (rounds : List (List Entry)) → Stands rounds tail (seen old) (images old) → Stands (with_round rounds round) desk.tail (seen new) (images new))
+      → (IsTrue tells → (rounds : List (List Entry)) → Stands rounds tail (seen old) (images old) → (c : List ℕ) → images new c → SpellsRounds (with_round rounds round) c)
+      → IsReady tells desk (seen new) (images new)
+  ready_behind desk before round tail old new whole stood stands spelled = record {
+    whole = whole_some desk.wallet (before ++ round) whole;
+    stands = λ told.
+        let s = stood told in
+        (with_round s.0 round, history_with s.0 round ∙ (ap (λ (h : List Entry). h ++ round) s.1 ∙ sym (whole_is desk (before ++ round) whole)), stands told s.0 s.2);
+    spelled = λ told c image.
+        let s = stood told in
+        subst (λ (h : List Entry). Spells h c) (sym (whole_is desk (before ++ round) whole)) (spells_with s.0 before round c s.1 (spelled told s.0 s.2 c image));
+  }
 
 -- ---- one more round
 

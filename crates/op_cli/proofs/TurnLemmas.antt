@@ -3,7 +3,9 @@ use Rattle.std.proofs.Common.{◌≡◌, ◌≢◌, ◌≤◌, ◌<◌, ◌+◌,
 use Rattle.std.specs.declared.option.Option.{Option}
 use Rattle.std.specs.Io.KnownBytes.{Consumes, Appends, Keeps, IsAtEnd}
 use Rattle.op_http.specs.Held.{Held}
-use Rattle.op_http.specs.Reader.{stream, Takes, Stays, HasEnded}
+use Rattle.op_http.specs.Reader.{stream, Takes, Stays, HasEnded, Refuses}
+use Rattle.op_http.specs.declared.reader.HttpFault.{HttpFault}
+use Rattle.op_http.specs.declared.reader.HttpFault.TheVariants as http
 use Rattle.op_ports.specs.Clock.{AsksKnown}
 use Rattle.op_ports.specs.Sink.{AppendsFront}
 use Rattle.op_ports.specs.Words.{DrawsKnown}
@@ -18,7 +20,8 @@ use Rattle.op_model.specs.declared.end.End.{End}
 use Rattle.op_model.specs.declared.end.End.TheVariants as ends
 use Rattle.op_model.specs.declared.reply.Reply.{Reply}
 use Rattle.op_model.specs.declared.reply.Refusal.{Refusal}
-use Rattle.op_cli.specs.Turns.{here, Turns, Stops, turn_of, Answers, Replies, ReplyFails, RefusalEnds}
+use Rattle.op_model.specs.declared.reply.Refusal.TheVariants as refusals
+use Rattle.op_cli.specs.Turns.{here, Turns, Stops, turn_of, Answers, Replies, ReplyFails, RefusalEnds, Unread}
 
 pub asks_none : (told : Option (List ℕ)) → AsksKnown told told []
 asks_none None = tt
@@ -177,22 +180,22 @@ module _ (old : List Entry) (h h' : Held) (w : World) (left' : Option (List ℕ)
   refused ends.WordsFault written' refusal reply same is told written n below = absurd written
   refused ends.TurnLimit written' refusal reply same is told written n below = absurd written
 
-  pub read_fault : Stays h h' w.left left' → BeginsWithNoRequest h'.bytes → Stops (here old h w) (record w { left = left' }) ends.ReadFault (settled old)
-  read_fault same none n below = record {
+  read_fault : (written' : Option (List ℕ)) → Stays h h' w.left left' → BeginsWithNoRequest h'.bytes → Keeps w.written written' → Stops (here old h w) (record { left = left'; answers = w.answers; words = w.words; written = written' }) ends.ReadFault (settled old)
+  read_fault written' same none kept n below = record {
     since = record { held = h'.bytes; asked = []; drawn = [] };
     read = stays_read h h' w.left left' same;
     clock = asks_none w.answers;
     draws = draws_none w.words;
-    cause = (below, none, record { unasked = refl; undrawn = refl; unwritten = keeps_same w.written; same = refl });
+    cause = (below, none, record { unasked = refl; undrawn = refl; unwritten = kept; same = refl });
   }
 
-  pub no_memory : Stays h h' w.left left' → Stops (here old h w) (record w { left = left' }) ends.OutOfMemory (settled old)
-  no_memory same n below = record {
+  no_memory : (written' : Option (List ℕ)) → Stays h h' w.left left' → Keeps w.written written' → Stops (here old h w) (record { left = left'; answers = w.answers; words = w.words; written = written' }) ends.OutOfMemory (settled old)
+  no_memory written' same kept n below = record {
     since = record { held = h'.bytes; asked = []; drawn = [] };
     read = stays_read h h' w.left left' same;
     clock = asks_none w.answers;
     draws = draws_none w.words;
-    cause = (omega arith, omega arith, keeps_same w.written, refl);
+    cause = (omega arith, omega arith, kept, refl);
   }
 
   pub stream_ended : HasEnded h h' w.left left' → Stops (here old h w) (record w { left = left' }) ends.Done (settled old)
@@ -203,6 +206,17 @@ module _ (old : List Entry) (h h' : Held) (w : World) (left' : Option (List ℕ)
     draws = draws_none w.words;
     cause = (below, blank, end, record { unasked = refl; undrawn = refl; unwritten = keeps_same w.written; same = refl });
   }
+
+-- no request was read
+pub unread_stops : (old : List Entry) (h h' : Held) (w : World) (left' written' : Option (List ℕ)) (end : End) (fault : HttpFault) → Refuses h h' w.left left' fault → Unread old fault w.written written' end
+    → Stops (here old h w) (record { left = left'; answers = w.answers; words = w.words; written = written' }) end (settled old)
+unread_stops old h h' w left' written' end (http.BadHttp at) (same, place, is) told = refused old h h' w left' end written' (refusals.BadHttp at) _ same (place, is) refl told
+unread_stops old h h' w left' written' end (http.LengthRequired at) (same, place, is) told = refused old h h' w left' end written' (refusals.LengthRequired at) _ same (place, is) refl told
+unread_stops old h h' w left' written' end (http.TooLarge at) (same, place, is) told = refused old h h' w left' end written' (refusals.RequestTooLarge at) _ same (place, is) refl told
+unread_stops old h h' w left' written' end http.ReadFault (same, none) (is, kept) =
+    subst (λ (e : End). Stops (here old h w) (record { left = left'; answers = w.answers; words = w.words; written = written' }) e (settled old)) (sym is) (read_fault old h h' w left' written' same none kept)
+unread_stops old h h' w left' written' end http.Memory same (is, kept) =
+    subst (λ (e : End). Stops (here old h w) (record { left = left'; answers = w.answers; words = w.words; written = written' }) e (settled old)) (sym is) (no_memory old h h' w left' written' same kept)
 
 pub takes_short : (h h' : Held) (left left' : Option (List ℕ)) (raw : Raw) → Takes h h' left left' raw → h'.at ≤ h.at + 81920
 takes_short h h' left left' raw takes = omega (arith, takes.at, takes.limit)

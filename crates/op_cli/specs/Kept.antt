@@ -1,5 +1,5 @@
 -- What a crash may leave of the journal while a session runs.
-use Rattle.std.specs.Prelude.{◌≡◌, ◌⊎◌, ◌≤◌, ◌+◌, ◌-◌, ◌*◌, ℕ, Bool, false, List, [], ◌++◌, length, take, IsTrue, IsSome}
+use Rattle.std.specs.Prelude.{◌≡◌, ◌⊎◌, ◌≤◌, ◌+◌, ◌-◌, ◌*◌, ℕ, Bool, List, [], ◌++◌, length, take, IsTrue, IsSome}
 use Rattle.std.specs.Option.{option_map_or}
 use Rattle.op_causes.specs.Causes.{Rose}
 use Rattle.op_desk.specs.Batches.{DeskValue}
@@ -16,7 +16,6 @@ history_at desk = option_map_or (λ w. w.history) desk.wallet []
 -- the desk is whole, and the disk, where it tells its bytes, stands as the desk says and spells its history
 pub record IsReady (tells : Bool) (desk : DeskValue) (seen : List ℕ) (images : List ℕ → Type 0) : Type 0 where
   pub whole : IsSome desk.wallet
-  pub running : desk.closed ≡ false
   pub stands : IsTrue tells → (rounds : List (List Entry)) × (history_of rounds ≡ history_at desk) × Stands rounds desk.tail seen images
   pub spelled : IsTrue tells → (c : List ℕ) → images c → Spells (history_at desk) c
 

@@ -1,15 +1,19 @@
 -- The parts of a turn.
-use Rattle.std.specs.Prelude.{◌≡◌, ◌≢◌, ◌⊎◌, ◌+◌, ◌<◌, ℕ, Bool, List, [], ◌∷◌}
+use Rattle.std.specs.Prelude.{◌≡◌, ◌≢◌, ◌⊎◌, ◌+◌, ◌<◌, ℕ, Bool, true, List, [], ◌∷◌}
 use Rattle.std.specs.Io.KnownBytes.{Appends, Keeps}
 use Rattle.std.specs.declared.option.Option.{Option}
 use Rattle.std.specs.declared.result.Result.{Result}
+use Rattle.op_desk.specs.Built.{is_built_request}
 use Rattle.op_desk.specs.Wallets.{Handles}
 use Rattle.op_http.specs.Held.{Held}
 use Rattle.op_http.specs.Reader.{stream}
+use Rattle.op_http.specs.declared.reader.HttpFault.{HttpFault}
+use Rattle.op_http.specs.declared.reader.HttpFault.TheVariants as http
 use Rattle.op_ports.specs.Clock.{AsksKnown}
 use Rattle.op_ports.specs.Sink.{AppendsFront}
 use Rattle.op_ports.specs.Words.{DrawsKnown}
 use Rattle.op_model.specs.History.{moment_of_turn}
+use Rattle.op_model.specs.Legal.{keeps_forms}
 use Rattle.op_model.specs.Meant.{meant}
 use Rattle.op_model.specs.Printed.{printed}
 use Rattle.op_model.specs.Requests.{Raw}
@@ -21,7 +25,7 @@ use Rattle.op_model.specs.declared.end.End.{End}
 use Rattle.op_model.specs.declared.end.End.TheVariants as ends
 use Rattle.op_model.specs.declared.reply.Reply.{Reply}
 use Rattle.op_model.specs.declared.reply.Refusal.{Refusal}
-use Rattle.op_model.specs.declared.reply.Refusal.TheVariants.{DiskFault, JournalFull}
+use Rattle.op_model.specs.declared.reply.Refusal.TheVariants.{BadHttp, LengthRequired, RequestTooLarge, DiskFault, JournalFull}
 use Rattle.op_model.specs.declared.request.Request.{Request}
 use Rattle.op_model.specs.declared.request.Task.{Task}
 
@@ -51,6 +55,11 @@ Answers old answer word asked reply new =
     (wanted : Bool) × ((text : List ℕ) (raw : Raw) → IsReplied old (turn_of text raw answer word wanted reply) asked new)
 
 -- ---- a round of one task
+
+-- a request is built, and its members keep their forms
+pub record IsFit (request : Request) : Type 0 where
+  pub built : is_built_request request ≡ true
+  pub forms : keeps_forms request ≡ true
 
 -- the history that stands, where a commit that would make the new one failed
 abbrev pub tried_after : (old new : List Entry) → Final
@@ -130,3 +139,11 @@ RefusalEnds reply written written' ends.Malformed = Appends written written' (pr
 RefusalEnds reply written written' ends.WriteFault = AppendsFront written written' (printed reply)
 RefusalEnds reply written written' ends.OutOfMemory = Keeps written written'
 RefusalEnds reply written written' _ = ⊥
+
+-- what is written where no request was read, and how the session ends
+abbrev pub Unread : List Entry → HttpFault → (written written' : Option (List ℕ)) → End → Type 0
+Unread old (http.BadHttp at) written written' end = RefusalEnds (refusal_reply old (BadHttp at)) written written' end
+Unread old (http.LengthRequired at) written written' end = RefusalEnds (refusal_reply old (LengthRequired at)) written written' end
+Unread old (http.TooLarge at) written written' end = RefusalEnds (refusal_reply old (RequestTooLarge at)) written written' end
+Unread old http.ReadFault written written' end = (end ≡ ends.ReadFault) × Keeps written written'
+Unread old http.Memory written written' end = (end ≡ ends.OutOfMemory) × Keeps written written'

@@ -13,18 +13,19 @@ ghost use Rattle.op_model.specs.Meant.{meant};
 ghost use Rattle.op_model.specs.Printed.{is_built, is_built_refusal, printed};
 ghost use Rattle.op_model.specs.Session.{Final, Session, begun, settled};
 ghost use Rattle.op_model.specs.Turn.{nobody, refusal_reply};
+ghost use Rattle.op_model.specs.declared.request.Task.TheVariants.{Ask};
 ghost use Rattle.op_model.specs.declared.end.End.TheVariants.{ReadFault, WriteFault, DiskFault, WordsFault};
 ghost use Rattle.op_ports.specs.Sink.{AppendsFront};
 ghost use Rattle.op_cli.specs.Kept.{history_at, IsReady, Leaves, Kept};
 ghost use Rattle.op_cli.specs.Told.{world_of};
-ghost use Rattle.op_cli.specs.Turns.{here, Turns, Stops, Handled, NotHandled, NotStood, Told, NotTold, NotWritten, Replies, ReplyFails, RefusalEnds};
+ghost use Rattle.op_cli.specs.Turns.{here, Turns, Stops, IsFit, Handled, NotHandled, NotStood, Told, NotTold, NotWritten, Replies, ReplyFails, RefusalEnds, Unread};
 
 use crate::outside::Outside;
 use op_api::{ApiFault, disk_fault_reply, journal_full_reply, prepare, print_reply};
 use op_desk::{Batch, Desk, RoundFault};
 use op_disk::Disk;
 use op_http::{HttpFault, RawRequest, Reader, write_all};
-use op_model::{End, Refusal, Reply, Task, Verdict, Word};
+use op_model::{End, Refusal, Reply, Request, Task, Verdict, Word};
 use op_ports::{Clock, Sink, Source, Words};
 use op_time::Moment;
 use std::alloc::Global;
@@ -56,16 +57,37 @@ fn write_last<K: Sink>(sink: &mut K, text: &[u8], end: End) -> End
     }
 }
 
+/// The bytes of a reply. `None` where memory was wanting.
+fn text_of(alloc: Global, reply: Reply) -> Option<Vec<u8>>
+    requires { IsTrue (is_built reply.body) }
+    ensures { IfSome result (λ text. text.items ≡ printed reply) }
+{
+    match print_reply(alloc, &reply) {
+        Ok(text) => Some(text),
+        Err(_) => None,
+    }
+}
+
+/// The bytes of a refusal on a desk's history. `None` where memory was wanting.
+fn refusal_text(alloc: Global, desk: &Desk, refusal: Refusal) -> Option<Vec<u8>>
+    requires whole { IsSome desk.now.wallet }
+    requires built { IsTrue (is_built_refusal refusal) }
+    ensures { IfSome result (λ text. text.items ≡ printed (refusal_reply (history_at desk.now) refusal)) }
+{
+    text_of(alloc, desk.wallet().refusal(refusal))
+}
+
 /// Writes the last refusal.
-fn refuse<K: Sink>(alloc: Global, reply: &Reply, sink: &mut K) -> End
-    requires { IsTrue (is_built reply.now.body) }
-    ensures end { RefusalEnds reply.now (K.written sink.old) (K.written sink.new) result }
+fn refuse<K: Sink>(alloc: Global, refusal: Refusal, desk: &Desk, sink: &mut K) -> End
+    requires whole { IsSome desk.now.wallet }
+    requires built { IsTrue (is_built_refusal refusal) }
+    ensures end { RefusalEnds (refusal_reply (history_at desk.now) refusal) (K.written sink.old) (K.written sink.new) result }
     ensures cause { result ≡ WriteFault → Rose (K.faults sink.old) (K.faults sink.new) }
     ensures kept { result ≢ WriteFault → K.faults sink.new ≡ K.faults sink.old }
 {
-    match print_reply(alloc, reply) {
-        Ok(text) => write_last(sink, &text, End::Malformed),
-        Err(_) => End::OutOfMemory,
+    match refusal_text(alloc, desk, refusal) {
+        Some(text) => write_last(sink, &text, End::Malformed),
+        None => End::OutOfMemory,
     }
 }
 
@@ -98,7 +120,6 @@ fn begin_round(
     desk: &mut Desk,
 ) -> Option<Round>
     requires whole { IsSome desk.old.wallet }
-    requires running { desk.old.closed ≡ false }
     requires built { IsTrue (is_built_task task.now) }
     requires proper { IsTrue (is_proper (history_at desk.old) task.now) }
 
@@ -112,10 +133,8 @@ fn begin_round(
         return None;
     };
     let reply = batch.act(word, 0, task);
-    match print_reply(alloc, &reply) {
-        Ok(text) => Some(Round { batch, text }),
-        Err(_) => None,
-    }
+    let text = text_of(alloc, reply)?;
+    Some(Round { batch, text })
 }
 
 /// Commits a round, and writes its reply once it stands, or that it does not.
@@ -183,6 +202,37 @@ fn run_round<D: Disk, K: Sink>(
     }
 }
 
+/// Runs a round of a request that is understood.
+fn run_request<D: Disk, K: Sink>(
+    alloc: Global,
+    request: Request,
+    answer: u64,
+    word: &Word,
+    desk: &mut Desk,
+    disk: &mut D,
+    sink: &mut K,
+) -> Result<(), End>
+    requires ready { IsReady D.tells desk.old (D.seen disk.old) (D.images disk.old) }
+    requires sound { IsSound (history_at desk.old) }
+    requires fit { IsFit request }
+
+    ensures ok { OnOk result (Handled (history_at desk.old) (history_at desk.new) (K.written sink.old) (K.written sink.new) answer word.now (Ask request nobody)) }
+    ensures ready { OnOk result (IsReady D.tells desk.new (D.seen disk.new) (D.images disk.new)) }
+    ensures stands { OnOk result (Leaves D.tells D.moment D.since D.images D.faults (history_at desk.old) (settled (history_at desk.new)) disk.old disk.new) }
+    ensures err { IfErr result (λ end. (final : Final) × NotHandled (history_at desk.old) (K.written sink.old) (K.written sink.new) answer word.now (Ask request nobody) end final
+        × Leaves D.tells D.moment D.since D.images D.faults (history_at desk.old) final disk.old disk.new) }
+    ensures disk_cause { result ≡ Err DiskFault → Rose (D.faults disk.old) (D.faults disk.new) }
+    ensures disk_kept { result ≢ Err DiskFault → result ≢ Err WriteFault → D.faults disk.new ≡ D.faults disk.old }
+    ensures write_cause { result ≡ Err WriteFault → Rose (K.faults sink.old) (K.faults sink.new) }
+    ensures write_kept { result ≢ Err WriteFault → K.faults sink.new ≡ K.faults sink.old }
+{
+    let task = Task::Ask {
+        request,
+        verdict: nobody(),
+    };
+    run_round(alloc, &task, answer, word, desk, disk, sink)
+}
+
 /// Writes the refusal of a request that means none.
 fn refuse_one<K: Sink>(
     alloc: Global,
@@ -197,10 +247,9 @@ fn refuse_one<K: Sink>(
     ensures cause { result ≡ Err WriteFault → Rose (K.faults sink.old) (K.faults sink.new) }
     ensures kept { result ≢ Err WriteFault → K.faults sink.new ≡ K.faults sink.old }
 {
-    let reply = desk.wallet().refusal(refusal);
-    match print_reply(alloc, &reply) {
-        Ok(text) => write_reply(sink, &text),
-        Err(_) => Err(End::OutOfMemory),
+    match refusal_text(alloc, desk, refusal) {
+        Some(text) => write_reply(sink, &text),
+        None => Err(End::OutOfMemory),
     }
 }
 
@@ -228,15 +277,28 @@ fn answer_one<D: Disk, K: Sink>(
     ensures write_kept { result ≢ Err WriteFault → K.faults sink.new ≡ K.faults sink.old }
 {
     match prepare(alloc, raw) {
-        Ok(request) => {
-            let task = Task::Ask {
-                request,
-                verdict: nobody(),
-            };
-            run_round(alloc, &task, answer, word, desk, disk, sink)
-        }
+        Ok(request) => run_request(alloc, request, answer, word, desk, disk, sink),
         Err(ApiFault::Refused(refusal)) => refuse_one(alloc, refusal, desk, sink),
         Err(ApiFault::Memory) => refuse_one(alloc, Refusal::Memory, desk, sink),
+    }
+}
+
+/// How the session ends where no request was read: what the stream goes on with is refused, or the read failed, or memory
+/// was wanting.
+fn unread<K: Sink>(alloc: Global, fault: HttpFault, desk: &Desk, sink: &mut K) -> End
+    requires whole { IsSome desk.now.wallet }
+    ensures end { Unread (history_at desk.now) fault (K.written sink.old) (K.written sink.new) result }
+    ensures cause { result ≡ WriteFault → Rose (K.faults sink.old) (K.faults sink.new) }
+    ensures kept { result ≢ WriteFault → K.faults sink.new ≡ K.faults sink.old }
+{
+    match fault {
+        HttpFault::BadHttp { at } => refuse(alloc, Refusal::BadHttp { at }, desk, sink),
+        HttpFault::LengthRequired { at } => {
+            refuse(alloc, Refusal::LengthRequired { at }, desk, sink)
+        }
+        HttpFault::TooLarge { at } => refuse(alloc, Refusal::RequestTooLarge { at }, desk, sink),
+        HttpFault::ReadFault => End::ReadFault,
+        HttpFault::Memory => End::OutOfMemory,
     }
 }
 
@@ -265,18 +327,18 @@ fn reply_to<D: Disk, S: Source, K: Sink, C: Clock, W: Words>(
     ensures draw_kept { result ≢ Err WordsFault → W.faults outside.new.draws ≡ W.faults outside.old.draws }
 {
     let answer = outside.clock.now();
-    let Ok(word) = outside.draws.draw() else {
-        return Err(End::WordsFault);
-    };
-    answer_one(
-        alloc,
-        raw,
-        answer,
-        &word,
-        desk,
-        &mut outside.disk,
-        &mut outside.sink,
-    )
+    match outside.draws.draw() {
+        Ok(word) => answer_one(
+            alloc,
+            raw,
+            answer,
+            &word,
+            desk,
+            &mut outside.disk,
+            &mut outside.sink,
+        ),
+        Err(_) => Err(End::WordsFault),
+    }
 }
 
 /// One turn.
@@ -306,17 +368,11 @@ fn turn<D: Disk, S: Source, K: Sink, C: Clock, W: Words>(
     ensures draw_cause { result ≡ Err WordsFault → Rose (W.faults outside.old.draws) (W.faults outside.new.draws) }
     ensures draw_kept { result ≢ Err WordsFault → W.faults outside.new.draws ≡ W.faults outside.old.draws }
 {
-    let refusal = match reader.next(alloc, &mut outside.source) {
-        Ok(Some(raw)) => return reply_to(alloc, &raw, desk, outside),
-        Ok(None) => return Err(End::Done),
-        Err(HttpFault::BadHttp { at }) => Refusal::BadHttp { at },
-        Err(HttpFault::LengthRequired { at }) => Refusal::LengthRequired { at },
-        Err(HttpFault::TooLarge { at }) => Refusal::RequestTooLarge { at },
-        Err(HttpFault::ReadFault) => return Err(End::ReadFault),
-        Err(HttpFault::Memory) => return Err(End::OutOfMemory),
-    };
-    let reply = desk.wallet().refusal(refusal);
-    Err(refuse(alloc, &reply, &mut outside.sink))
+    match reader.next(alloc, &mut outside.source) {
+        Ok(Some(raw)) => reply_to(alloc, &raw, desk, outside),
+        Ok(None) => Err(End::Done),
+        Err(fault) => Err(unread(alloc, fault, desk, &mut outside.sink)),
+    }
 }
 
 /// A session over the history of a desk: requests are answered in order, until it ends.
