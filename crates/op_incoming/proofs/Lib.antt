@@ -1,0 +1,5 @@
+pub mod Dues
+pub mod Kept
+pub mod Numbers
+pub mod Places
+pub mod Sums
