@@ -3,3 +3,4 @@ pub mod Kept
 pub mod Numbers
 pub mod Places
 pub mod Sums
+mod WorkedRows
