@@ -1,12 +1,12 @@
 -- What is kept of incoming payments, behind each change.
-use Rattle.std.proofs.Common.{◌≡◌, ◌≢◌, refl, sym, ap, subst, ◌∙◌, ℕ, zero, suc, ◌+◌, ◌-◌, ◌*◌, ◌<◌, ◌≤◌, Bool, true, false, cond, List, [], ◌∷◌, ◌++◌, length, get_or, arith, IsTrue}
-use Rattle.std.specs.Prelude.{◌==◌, ◌&&◌, not, nat_lt, filter, slice_set, Some, None, is_some, unwrap_or, IfSome, All}
+use Rattle.std.proofs.Common.{◌≡◌, refl, sym, ap, subst, ◌∙◌, ℕ, zero, suc, ◌+◌, ◌-◌, ◌<◌, ◌≤◌, Bool, true, false, cond, List, [], ◌∷◌, ◌++◌, length, get_or, arith, IsTrue}
+use Rattle.std.specs.Prelude.{◌==◌, ◌&&◌, not, nat_lt, filter, slice_set, Some, None, unwrap_or, IfSome, All}
 use Rattle.std.specs.Option.{option_map_or, option_to_list}
 use Rattle.std.specs.declared.option.Option.{Option}
 use Rattle.std.proofs.lemmas.Bool.Decides.{nat_tests}
 use Rattle.std.proofs.lemmas.List.Elements.{All-set, All-get_or, All-append, All-cons, All-nil}
 use Rattle.op_amount.specs.declared.TheConstants.{TOP}
-use Rattle.op_model.specs.History.{nth, with_item}
+use Rattle.op_model.specs.History.{nth}
 use Rattle.op_model.specs.Incoming.{bound_of}
 use Rattle.op_model.specs.declared.row.IncomingRow.{IncomingRow}
 use Rattle.op_model.proofs.Items.{set_at_is_with_item}

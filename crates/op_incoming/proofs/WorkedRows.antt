@@ -1,8 +1,8 @@
 -- Worked rows: an expiry to the millisecond, and a piece that passes the bound.
-use Rattle.std.specs.Prelude.{◌≡◌, ℕ, true, false, List, [], ◌∷◌, Some, None, refl}
+use Rattle.std.specs.Prelude.{◌≡◌, true, false, List, [], ◌∷◌, Some, None, refl}
 use Rattle.op_model.specs.declared.request.Task.TheVariants.{Expire}
 use Rattle.op_model.specs.declared.row.IncomingRow.{IncomingRow}
-use Rattle.op_incoming.specs.Rows.{is_open_at, is_due_at, is_completed, row_is, room_in, received_by, made, paid, completed, expired, due_tasks}
+use Rattle.op_incoming.specs.Rows.{is_open_at, is_completed, row_is, room_in, received_by, made, paid, completed, expired, due_tasks}
 use Rattle.op_incoming.specs.declared.incoming.Incoming.{Incoming}
 
 -- a payment with an amount of 101 that expires at 2024-03-01T12:30:00.123Z

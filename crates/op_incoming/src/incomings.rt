@@ -182,7 +182,7 @@ impl Incomings {
         let place = n as usize - 1;
         self.kept[place].received += value;
         if !self.kept[place].is_unfinished() {
-            self.unfinished.retain(|number| *number != n);
+            self.unfinished.retain(|other| *other != n);
         }
     }
 

@@ -1,7 +1,6 @@
 use Rattle.std.proofs.Common.{◌≡◌, ◌+◌, true, false, length, sym, ap, ◌∙◌, arith}
 use Rattle.std.specs.Prelude.{Some, nat_eq}
 use Rattle.std.specs.Option.{option_eq}
-use Rattle.op_incoming.specs.Within.{AreKept}
 use Rattle.op_incoming.proofs.Kept.{bound_fits, kept_made}
 use Rattle.op_incoming.proofs.incomings.Incomings.add.Goals as goal
 
