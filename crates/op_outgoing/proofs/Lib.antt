@@ -1,0 +1,8 @@
+pub mod Floors
+pub mod Holding
+pub mod Idle
+pub mod Kept
+pub mod Quotes
+pub mod Rounds
+pub mod Rows
+pub mod Sending

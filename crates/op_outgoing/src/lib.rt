@@ -1,0 +1,14 @@
+//! Quotes and outgoing payments: how a payment is funded, sent in pieces, and ended. All values are smallest units, of
+//! the asset of the payer's wallet address for what is sent and charged, and of the payee's for what is delivered.
+#![tactic(auto)]
+
+mod outgoings;
+mod payments;
+mod progress;
+mod quoted;
+mod stepping;
+#[cfg(test)]
+mod tests;
+
+pub use op_model::{OutgoingRow, QuoteRow, StepAnswer};
+pub use outgoings::{OutgoingFault, Outgoings};
