@@ -6,3 +6,4 @@ pub mod Quotes
 pub mod Rounds
 pub mod Rows
 pub mod Sending
+mod WorkedRows

@@ -112,11 +112,11 @@ tied_made quotes rows q x row tied there at from =
     record {
       priced = All-set (λ quoted. ArePriced quoted.row.terms) quotes (q - 1) (mark x) priced tied.priced;
       marked = λ m.
-        ap (λ qs. option_map_or (λ quoted. quoted.used) (nth qs m) false) (set_at_is_with_item mark q quotes x there at)
-        ∙ ap (λ o. option_map_or (λ quoted. quoted.used) o false) (nth-with_item mark quotes q m)
-        ∙ marked_step (m == q) (nth quotes m) (is_paid_in rows m) (tied.marked m) (λ is. subst (λ k. IsTrue (is_some (nth quotes k))) (sym (same_number m q is)) there)
-        ∙ ap (λ t. is_paid_in rows m || t) (number_sym m q ∙ sym (ap (λ quote. option_map_or (λ n. n == m) quote false) from))
-        ∙ sym (any_more (is_from m) rows row);
+          ap (λ qs. option_map_or (λ quoted. quoted.used) (nth qs m) false) (set_at_is_with_item mark q quotes x there at)
+          ∙ ap (λ o. option_map_or (λ quoted. quoted.used) o false) (nth-with_item mark quotes q m)
+          ∙ marked_step (m == q) (nth quotes m) (is_paid_in rows m) (tied.marked m) (λ is. subst (λ k. IsTrue (is_some (nth quotes k))) (sym (same_number m q is)) there)
+          ∙ ap (λ t. is_paid_in rows m || t) (number_sym m q ∙ sym (ap (λ quote. option_map_or (λ n. n == m) quote false) from))
+          ∙ sym (any_more (is_from m) rows row);
     }
 
 -- callers see no mark

@@ -109,7 +109,7 @@ pub held_in_value : (rows later : List OutgoingRow) (value : OutgoingsValue) (le
 held_in_value rows later value ledger after change n row same is found alike = λ address.
     subst (λ xs. held_in after (Wallet address) + left_of xs (Wallet address) ≡ held_in ledger (Wallet address) + left_of later (Wallet address)) same
     (subst (λ xs. held_in after (Wallet address) + left_of rows (Wallet address) ≡ held_in ledger (Wallet address) + left_of xs (Wallet address)) (sym is)
-      (held_changed rows change n row ledger after found alike address))
+    (held_changed rows change n row ledger after found alike address))
 
 pub covered_in_value : (rows later : List OutgoingRow) (value : OutgoingsValue) (ledger after : LedgerValue) (change : OutgoingRow → OutgoingRow) (n : ℕ) (row : OutgoingRow) → rows ≡ value.rows → later ≡ with_item change rows n → nth rows n ≡ Some row → HoldsAlike row (change row) ledger after → IsCovered value ledger → (address : ℕ) → left_of later (Wallet address) ≤ held_in after (Wallet address)
 covered_in_value rows later value ledger after change n row same is found alike covered = λ address.

@@ -112,12 +112,7 @@ fn fund(row: &OutgoingRow, ledger: &mut Ledger, t: Moment) -> Stepped
 }
 
 // A payment that sends.
-fn send(
-    row: &OutgoingRow,
-    ledger: &mut Ledger,
-    incomings: &mut Incomings,
-    t: Moment,
-) -> Stepped
+fn send(row: &OutgoingRow, ledger: &mut Ledger, incomings: &mut Incomings, t: Moment) -> Stepped
     requires sound { IsSoundRow row.now }
     requires sending { row.now.state ≡ states.Sending }
     requires accounts { IsTrue (are_accounts_there ledger.old row.now) }

@@ -77,11 +77,14 @@ returns-clause-ok c =
     let expiry : quote_expiry c.args.self.now q ≡ x.row.expiry = ap (λ value. quote_expiry value q) (sym c.self.view_is) ∙ is.expiry in
     let quotes = c.self.inside.quotes.items in
     let rows = c.self.inside.payments in
-    let shown : List QuoteRow → List OutgoingRow → OutgoingsValue = λ qs xs. record { quotes = qs; rows = xs } in
-    (ap (λ qs. shown qs c.push.new.self) (rows_marked quotes (q - 1) c.index_mut.result.now c.index_mut.ensures.value)
-      ∙ ap (shown (rows_of quotes)) c.in_ok-number.ensures.ok.0
-      ∙ sym (fresh_is (shown (rows_of quotes) rows) c.args.t q c.args.grant c.args.metadata x.row is.found)
-      ∙ ap (λ value. with_fresh value c.args.t q c.args.grant c.args.metadata) c.self.view_is, c.in_ok-number.ensures.ok.1, omega (arith, expiry, c.if-ms.false, c.ms.ensures.value, c.ms-2.ensures.value))
+    let shown : List QuoteRow → List OutgoingRow → OutgoingsValue = λ qs xs. record { quotes = qs; rows = xs } in (
+      ap (λ qs. shown qs c.push.new.self) (rows_marked quotes (q - 1) c.index_mut.result.now c.index_mut.ensures.value)
+          ∙ ap (shown (rows_of quotes)) c.in_ok-number.ensures.ok.0
+          ∙ sym (fresh_is (shown (rows_of quotes) rows) c.args.t q c.args.grant c.args.metadata x.row is.found)
+          ∙ ap (λ value. with_fresh value c.args.t q c.args.grant c.args.metadata) c.self.view_is,
+      c.in_ok-number.ensures.ok.1,
+      omega (arith, expiry, c.if-ms.false, c.ms.ensures.value, c.ms-2.ensures.value),
+    )
 
 pub returns-clause-used : goal.returns-clause-used
 returns-clause-used c =

@@ -32,20 +32,20 @@ loop-number-preserved c =
     let within : i < length items = omega (arith, c.loop-number-test.true) in
     elim c.if-number-cursor.branch [
       | then-number-cursor+in_ok-push w ↦
-        let more = taken_more cursor items i n within refl w.if-number-cursor.true in
-        let pushed : c.if-number-cursor.tasks.items ≡ c.loop-number.tasks.items ++ Step n w.step_of.result ∷ [] = ap (λ tasks. tasks.items) w.tasks-is ∙ w.in_ok-push.ensures.items in
-        record {
-          tasks = pushed ∙ step_more rows c.loop-number.tasks.items (filter (is_above cursor) (take i items)) _ n w.step_of.result c.loop-number.invariant.tasks w.step_of.ensures more;
-          last = w.last-is ∙ last_more (filter (is_above cursor) (take i items)) _ n more;
-          few = omega (arith, ap length pushed, length-append c.loop-number.tasks.items (Step n w.step_of.result ∷ []), c.loop-number.invariant.few, c.len.ensures, c.if-len-room.false, c.loop-number.tasks.ok.0);
-        }
+          let more = taken_more cursor items i n within refl w.if-number-cursor.true in
+          let pushed : c.if-number-cursor.tasks.items ≡ c.loop-number.tasks.items ++ Step n w.step_of.result ∷ [] = ap (λ tasks. tasks.items) w.tasks-is ∙ w.in_ok-push.ensures.items in
+          record {
+            tasks = pushed ∙ step_more rows c.loop-number.tasks.items (filter (is_above cursor) (take i items)) _ n w.step_of.result c.loop-number.invariant.tasks w.step_of.ensures more;
+            last = w.last-is ∙ last_more (filter (is_above cursor) (take i items)) _ n more;
+            few = omega (arith, ap length pushed, length-append c.loop-number.tasks.items (Step n w.step_of.result ∷ []), c.loop-number.invariant.few, c.len.ensures, c.if-len-room.false, c.loop-number.tasks.ok.0);
+          }
       | else-number-cursor w ↦
-        let same = taken_same cursor items i n within refl w.if-number-cursor.false in
-        record {
-          tasks = ap (λ tasks. tasks.items) w.tasks-is ∙ c.loop-number.invariant.tasks ∙ ap (map (step_in rows)) (sym same);
-          last = w.last-is ∙ c.loop-number.invariant.last ∙ ap (λ ns. unwrap_or (last ns) 0) (sym same);
-          few = omega (arith, ap (λ tasks. length tasks.items) w.tasks-is, c.loop-number.invariant.few);
-        }
+          let same = taken_same cursor items i n within refl w.if-number-cursor.false in
+          record {
+            tasks = ap (λ tasks. tasks.items) w.tasks-is ∙ c.loop-number.invariant.tasks ∙ ap (map (step_in rows)) (sym same);
+            last = w.last-is ∙ c.loop-number.invariant.last ∙ ap (λ ns. unwrap_or (last ns) 0) (sym same);
+            few = omega (arith, ap (λ tasks. length tasks.items) w.tasks-is, c.loop-number.invariant.few);
+          }
     ]
 
 pub returns : goal.returns
