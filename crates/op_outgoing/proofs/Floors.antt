@@ -1,11 +1,10 @@
 -- Floors of sums: they grow with the sum, and stay below those of the whole.
-use Rattle.std.proofs.Common.{◌≡◌, refl, sym, ap, ◌∙◌, ℕ, ◌+◌, ◌-◌, ◌*◌, ◌/◌, ◌<◌, ◌≤◌, Bool, true, false, cond, min, arith}
-use Rattle.std.specs.Prelude.{nat_lt, Some, None, if◌then◌else◌}
-use Rattle.std.specs.declared.option.Option.{Option}
-use Rattle.std.proofs.Math.Nat.{div-mul-le_self, mul-le-mul_right, mul-div_cancel}
+use Rattle.std.proofs.Common.{◌≡◌, refl, ℕ, ◌*◌, ◌/◌, ◌<◌, ◌≤◌, Bool, true, false, cond, arith}
+use Rattle.std.specs.Prelude.{nat_lt, Some, None}
+use Rattle.std.proofs.Math.Nat.{div-mul-le_self, mul-le-mul_right}
 use Rattle.std.proofs.lemmas.Bool.Decides.{nat_tests}
 use Rattle.std.proofs.lemmas.Nat.{le-div}
-use Rattle.op_amount.specs.Rates.{floor_mul, share, amount_or_none}
+use Rattle.op_amount.specs.Rates.{floor_mul, amount_or_none}
 use Rattle.op_amount.specs.declared.TheConstants.{TOP}
 use Rattle.op_model.specs.declared.row.OutgoingRow.{OutgoingRow}
 use Rattle.op_outgoing.specs.Pieces.{next_sent, next_delivered}

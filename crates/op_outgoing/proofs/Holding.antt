@@ -1,13 +1,12 @@
 -- What is held on a ledger, and what payments have left to post.
-use Rattle.std.proofs.Common.{◌≡◌, refl, sym, ap, subst, ◌∙◌, ℕ, ◌+◌, ◌-◌, ◌*◌, ◌/◌, ◌<◌, ◌≤◌, Bool, true, false, cond, min, arith, IsTrue}
+use Rattle.std.proofs.Common.{◌≡◌, refl, sym, ap, subst, ◌∙◌, ℕ, ◌+◌, ◌-◌, ◌*◌, ◌/◌, ◌<◌, ◌≤◌, Bool, true, false, cond, arith}
 use Rattle.std.specs.Prelude.{◌==◌, ◌&&◌, Some, None, is_some}
 use Rattle.std.specs.Option.{option_map_or}
 use Rattle.std.specs.declared.option.Option.{Option}
-use Rattle.std.proofs.Math.Nat.{div-mul-le_self, div-le_of_le-mul, mul-le-mul_left, mul-div_cancel, mul_comm}
-use Rattle.std.proofs.lemmas.Bool.Decides.{nat_tests}
+use Rattle.std.proofs.Math.Nat.{div-mul-le_self, div-le_of_le-mul, mul-le-mul_left, mul-div_cancel}
 use Rattle.std.proofs.lemmas.Nat.{le-div}
 use Rattle.op_amount.specs.Rates.{share}
-use Rattle.op_ledger.specs.Balances.{LedgerValue, balance_of, is_there, held_in, holding, moved}
+use Rattle.op_ledger.specs.Balances.{LedgerValue, balance_of, is_there, held_in, holding}
 use Rattle.op_ledger.specs.declared.values.Balance.{Balance}
 use Rattle.op_ledger.specs.Pieces.{taken, with_piece, piece_legs}
 use Rattle.op_ledger.proofs.AccountTests.{account_is, is_same_account-sym, same_number}
@@ -18,12 +17,11 @@ use Rattle.op_model.specs.declared.act.Account.{Account}
 use Rattle.op_model.specs.declared.act.Account.TheVariants.{Wallet}
 use Rattle.op_model.specs.declared.act.FailReason.{FailReason}
 use Rattle.op_model.specs.declared.row.OutgoingRow.{OutgoingRow}
-use Rattle.op_model.specs.declared.row.PaymentState.{PaymentState}
 use Rattle.op_model.specs.declared.row.PaymentState.TheVariants as states
 use Rattle.op_outgoing.specs.Held.{left_by, HoldsAlike}
-use Rattle.op_outgoing.specs.Pieces.{next_sent, next_fee, next_piece, next_state}
+use Rattle.op_outgoing.specs.Pieces.{next_sent, next_fee, next_piece}
 use Rattle.op_outgoing.specs.Sound.{IsAsFarAs, IsSoundRow}
-use Rattle.op_outgoing.specs.Steps.{funded_row, with_next_piece, ended_as, to_hold, voided}
+use Rattle.op_outgoing.specs.Steps.{funded_row, with_next_piece, ended_as, to_hold}
 
 -- ---- what is held, behind a change on one account
 
@@ -92,24 +90,24 @@ alike_unchanged v old new same e = λ address.
 pub zero_share : (fee whole : ℕ) → share fee 0 whole ≡ 0
 zero_share fee whole = let none : fee * 0 / whole ≤ 0 = div-le_of_le-mul whole (omega arith) in omega arith
 
-share-le : (fee s t whole : ℕ) → s ≤ t → 0 < whole → share fee s whole ≤ share fee t whole
+pub share-le : (fee s t whole : ℕ) → s ≤ t → 0 < whole → share fee s whole ≤ share fee t whole
 share-le fee s t whole le some = le-div (fee * s / whole) (fee * t) whole some (omega (arith, div-mul-le_self (fee * s) whole, mul-le-mul_left fee le))
 
-share_whole : (fee whole : ℕ) → 0 < whole → share fee whole whole ≡ fee
+pub share_whole : (fee whole : ℕ) → 0 < whole → share fee whole whole ≡ fee
 share_whole fee whole some = mul-div_cancel fee some
 
 -- ---- what has to be held for a payment, behind each step
 
-waiting_holds_none : (row : OutgoingRow) → row.state ≡ states.Funding → to_hold row ≡ 0
+pub waiting_holds_none : (row : OutgoingRow) → row.state ≡ states.Funding → to_hold row ≡ 0
 waiting_holds_none row is = ap (λ state. cond (is_sending state) (left_to_post row) 0) is
 
-sending_holds : (row : OutgoingRow) → row.state ≡ states.Sending → to_hold row ≡ left_to_post row
+pub sending_holds : (row : OutgoingRow) → row.state ≡ states.Sending → to_hold row ≡ left_to_post row
 sending_holds row is = ap (λ state. cond (is_sending state) (left_to_post row) 0) is
 
-funding_far : (row : OutgoingRow) → IsSoundRow row → row.state ≡ states.Funding → row.sent ≡ 0
+pub funding_far : (row : OutgoingRow) → IsSoundRow row → row.state ≡ states.Funding → row.sent ≡ 0
 funding_far row sound is = let far = subst (λ state. IsAsFarAs state row) is sound.far in far.0
 
-sending_far : (row : OutgoingRow) → IsSoundRow row → row.state ≡ states.Sending → row.sent < row.terms.source
+pub sending_far : (row : OutgoingRow) → IsSoundRow row → row.state ≡ states.Sending → row.sent < row.terms.source
 sending_far row sound is = let far = subst (λ state. IsAsFarAs state row) is sound.far in far.0
 
 pub alike_funded : (v : LedgerValue) (row : OutgoingRow) → IsSoundRow row → row.state ≡ states.Funding → is_there v (Wallet row.terms.payer) ≡ true → HoldsAlike row (funded_row row) v (holding v (Wallet row.terms.payer) (λ h. h + row.terms.debit))

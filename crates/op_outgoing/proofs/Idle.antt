@@ -1,7 +1,5 @@
 -- An answer that changes nothing.
-use Rattle.std.proofs.Common.{◌≡◌, refl, ℕ, Bool, true, false, List, IsTrue}
-use Rattle.std.specs.Prelude.{Some}
-use Rattle.std.specs.Option.{option_map_or}
+use Rattle.std.proofs.Common.{◌≡◌, refl, true, false, List, IsTrue}
 use Rattle.op_incoming.specs.declared.incoming.Incoming.{Incoming}
 use Rattle.op_ledger.specs.Balances.{LedgerValue}
 use Rattle.op_model.specs.declared.reply.StepAnswer.{StepAnswer}

@@ -1,13 +1,13 @@
 -- What is kept of payments, behind each change.
-use Rattle.std.proofs.Common.{◌≡◌, sym, ap, subst, ◌∙◌, ℕ, ◌+◌, ◌-◌, Bool, true, false, cond, List, [], ◌∷◌, ◌++◌, length, get_or, IsTrue}
-use Rattle.std.specs.Prelude.{◌==◌, not, filter, slice_set, Some, None, is_some, IfSome, All}
+use Rattle.std.proofs.Common.{◌≡◌, sym, ap, ◌∙◌, ℕ, ◌+◌, ◌-◌, true, false, cond, List, [], ◌∷◌, ◌++◌, length, get_or, IsTrue}
+use Rattle.std.specs.Prelude.{◌==◌, not, filter, slice_set, Some, None, is_some, IfSome}
 use Rattle.std.specs.Option.{option_to_list}
 use Rattle.std.specs.declared.option.Option.{Option}
-use Rattle.std.proofs.lemmas.List.Elements.{All-set, All-get_or, All-append, All-cons, All-nil}
+use Rattle.std.proofs.lemmas.List.Elements.{All-set, All-append, All-cons, All-nil}
 use Rattle.op_incoming.specs.Numbers.{number_if, numbers_where}
 use Rattle.op_incoming.proofs.Numbers.{numbers_where-stays, numbers_where-leaves}
-use Rattle.op_incoming.proofs.Places.{place_of_some, nth_of_place}
-use Rattle.op_model.specs.History.{nth, with_item}
+use Rattle.op_incoming.proofs.Places.{nth_of_place}
+use Rattle.op_model.specs.History.{nth}
 use Rattle.op_model.specs.declared.row.OutgoingRow.{OutgoingRow}
 use Rattle.op_model.proofs.Items.{set_at_is_with_item}
 use Rattle.op_model.proofs.Next.{numbered_collected-next}

@@ -5,5 +5,6 @@ pub mod Kept
 pub mod Quotes
 pub mod Rounds
 pub mod Rows
+pub mod RunLemmas
 pub mod Sending
 mod WorkedRows

@@ -1,23 +1,22 @@
 -- Quotes with their marks.
-use Rattle.std.proofs.Common.{◌≡◌, refl, sym, ap, subst, ◌∙◌, ℕ, zero, suc, ◌+◌, ◌-◌, ◌*◌, ◌/◌, ◌<◌, ◌≤◌, Bool, true, false, cond, List, [], ◌∷◌, ◌++◌, map, length, get_or, arith, IsTrue, inl, inr}
-use Rattle.std.specs.Prelude.{◌==◌, ◌||◌, slice_set, slice_get, Some, None, is_some, All}
+use Rattle.std.proofs.Common.{◌≡◌, refl, sym, ap, subst, ◌∙◌, ℕ, zero, suc, ◌-◌, ◌*◌, ◌/◌, ◌<◌, ◌≤◌, Bool, true, false, cond, List, [], ◌∷◌, ◌++◌, map, length, get_or, arith, IsTrue}
+use Rattle.std.specs.Prelude.{◌==◌, ◌||◌, slice_set, slice_get, Some, None, is_some}
 use Rattle.std.specs.List.{list_any}
 use Rattle.std.specs.Option.{option_map, option_map_or}
 use Rattle.std.specs.declared.option.Option.{Option}
 use Rattle.std.proofs.Math.Nat.{div-le_of_le-mul}
 use Rattle.std.proofs.Math.Seq.{map-set_same}
-use Rattle.std.proofs.lemmas.Bool.{cases_Bool}
 use Rattle.std.proofs.lemmas.Bool.Decides.{nat_tests}
 use Rattle.std.proofs.lemmas.List.Elements.{All-set, All-get_or, All-append, All-cons, All-nil}
 use Rattle.std.proofs.lemmas.Option.{slice_get-map, slice_get_read}
 use Rattle.op_amount.specs.Rates.{floor_mul}
 use Rattle.op_incoming.proofs.Places.{place_of_some, nth_of_place, nth-with_item}
-use Rattle.op_model.specs.History.{nth, with_item}
+use Rattle.op_model.specs.History.{nth}
 use Rattle.op_model.specs.declared.row.OutgoingRow.{OutgoingRow}
 use Rattle.op_model.specs.declared.row.QuoteRow.{QuoteRow}
 use Rattle.op_model.proofs.Items.{set_at_is_with_item}
 use Rattle.op_outgoing.specs.Sound.{ArePriced, IsSoundRow}
-use Rattle.op_outgoing.specs.Value.{OutgoingsValue, is_from, is_paid_in, quote_expiry, with_fresh, fresh_row, AreMarked, AreTied}
+use Rattle.op_outgoing.specs.Value.{OutgoingsValue, is_from, is_paid_in, with_fresh, fresh_row, AreTied}
 use Rattle.op_outgoing.specs.declared.quoted.Quoted.{Quoted}
 use Rattle.op_outgoing.proofs.Holding.{zero_share}
 

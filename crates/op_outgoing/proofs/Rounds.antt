@@ -1,15 +1,14 @@
 -- The steps of the first payments that have not ended, and the cursor behind them.
 use Rattle.std.proofs.Common.{◌≡◌, refl, sym, ap, subst, ◌∙◌, ℕ, suc, ◌+◌, ◌<◌, ◌≤◌, Bool, true, false, cond, List, [], ◌∷◌, ◌++◌, length, map, take, arith, add-zero, unwrap_or, get_or, append-nil}
-use Rattle.std.specs.Prelude.{◌&&◌, not, nat_lt, filter, slice_get, Some, None}
+use Rattle.std.specs.Prelude.{◌&&◌, nat_lt, filter, slice_get, Some, None}
 use Rattle.std.specs.List.{enumerate_from, filter_map, cons_option}
 use Rattle.std.specs.Option.{option_map_or}
 use Rattle.std.proofs.lemmas.List.{length-map, length-take, map-append, take-map, take_more}
 use Rattle.std.proofs.lemmas.List.Elements.{filter-append}
 use Rattle.std.proofs.lemmas.Bool.Decides.{nat_tests}
 use Rattle.op_incoming.specs.Numbers.{number_if, numbers_where}
-use Rattle.op_incoming.proofs.Numbers.{first_passing, all_passing}
-use Rattle.op_model.specs.History.{nth, numbered, last}
-use Rattle.op_model.specs.Work.{Running, is_running, step_task}
+use Rattle.op_model.specs.History.{nth, last}
+use Rattle.op_model.specs.Work.{Running, step_task}
 use Rattle.op_model.specs.declared.request.Task.{Task}
 use Rattle.op_model.specs.declared.request.Task.TheVariants.{Step}
 use Rattle.op_model.specs.declared.row.OutgoingRow.{OutgoingRow}

@@ -1,23 +1,21 @@
 -- Payments in a list, of which one changes.
-use Rattle.std.proofs.Common.{◌≡◌, refl, sym, ap, subst, ◌∙◌, ℕ, zero, suc, ◌+◌, ◌-◌, ◌<◌, ◌≤◌, Bool, true, false, cond, List, [], ◌∷◌, ◌++◌, map, length, get_or, arith, IsTrue, sum_by}
-use Rattle.std.specs.Prelude.{◌==◌, ◌||◌, slice_set, slice_get, Some, None, is_some, All}
+use Rattle.std.proofs.Common.{◌≡◌, refl, sym, ap, subst, ◌∙◌, ℕ, zero, suc, ◌+◌, ◌-◌, ◌<◌, ◌≤◌, Bool, true, false, cond, List, [], ◌∷◌, map, length, get_or, arith}
+use Rattle.std.specs.Prelude.{◌==◌, ◌||◌, slice_set, slice_get, Some, None}
 use Rattle.std.specs.List.{enumerate_from, list_any}
 use Rattle.std.specs.Option.{option_map_or}
-use Rattle.std.specs.declared.option.Option.{Option}
 use Rattle.std.proofs.lemmas.List.Sums.{sum_by-set, get_or-le-sum_by}
 use Rattle.std.proofs.lemmas.Option.{slice_get_within, get_or_from_slice_get}
 use Rattle.op_ledger.specs.Balances.{LedgerValue, held_in}
 use Rattle.op_ledger.proofs.AccountTests.{is_account}
 use Rattle.op_model.specs.Balances.{is_payer}
 use Rattle.op_model.specs.History.{nth, changed_at, with_item}
-use Rattle.op_model.specs.Payments.{is_sending, left_to_post}
 use Rattle.op_model.specs.declared.act.Account.{Account}
 use Rattle.op_model.specs.declared.act.Account.TheVariants.{Wallet}
 use Rattle.op_model.specs.declared.row.OutgoingRow.{OutgoingRow}
 use Rattle.op_model.proofs.Items.{set_is_with_item}
 use Rattle.op_outgoing.specs.Held.{left_by, left_of, IsCovered, HoldsAlike}
 use Rattle.op_outgoing.specs.Steps.{to_hold}
-use Rattle.op_outgoing.specs.Value.{OutgoingsValue, is_from, is_paid_in, AreMarked, AreTied}
+use Rattle.op_outgoing.specs.Value.{OutgoingsValue, is_from, AreTied}
 use Rattle.op_outgoing.specs.declared.quoted.Quoted.{Quoted}
 
 -- ---- items by number

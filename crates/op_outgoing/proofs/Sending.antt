@@ -1,6 +1,6 @@
 -- What a step of a payment that sends is answered.
 use Rattle.std.proofs.Common.{◌≡◌, refl, ℕ, ◌-◌, Bool, true, false, cond, List, IsTrue}
-use Rattle.std.specs.Prelude.{◌&&◌, ◌==◌, not, if◌then◌else◌}
+use Rattle.std.specs.Prelude.{◌&&◌, ◌==◌, not}
 use Rattle.op_incoming.specs.Rows.{row_is, is_open_at}
 use Rattle.op_incoming.specs.declared.incoming.Incoming.{Incoming}
 use Rattle.op_ledger.specs.Balances.{LedgerValue, is_there, available_in, asset_in}

@@ -1,11 +1,9 @@
 -- What is held on payers, and the accounts that a payment needs.
-use Rattle.std.specs.Prelude.{ℕ, ◌≡◌, ◌+◌, ◌≤◌, Bool, true, not, ◌&&◌, ◌||◌, ◌==◌, if◌then◌else◌, List, sum_by, IsTrue}
-use Rattle.std.specs.Option.{option_map_or}
+use Rattle.std.specs.Prelude.{ℕ, ◌≡◌, ◌+◌, ◌≤◌, Bool, not, ◌&&◌, ◌||◌, ◌==◌, if◌then◌else◌, List, sum_by}
 use Rattle.op_incoming.specs.Rows.{has_row}
 use Rattle.op_incoming.specs.declared.incoming.Incoming.{Incoming}
 use Rattle.op_ledger.specs.Balances.{LedgerValue, is_there, asset_in, held_in}
 use Rattle.op_model.specs.Balances.{is_payer}
-use Rattle.op_model.specs.History.{nth}
 use Rattle.op_model.specs.Payments.{is_sending, left_to_post}
 use Rattle.op_model.specs.declared.act.Account.{Account}
 use Rattle.op_model.specs.declared.act.Account.TheVariants.{Outside, Pool, Fees, Wallet}

@@ -2,6 +2,7 @@ pub mod Answers
 pub mod Held
 pub mod Pieces
 pub mod Progress
+pub mod Runs
 pub mod Sound
 pub mod Steps
 pub mod Value

@@ -1,5 +1,5 @@
 -- What holds of the terms of every quote, and of every payment.
-use Rattle.std.specs.Prelude.{ℕ, ◌≡◌, ◌+◌, ◌≤◌, ◌<◌}
+use Rattle.std.specs.Prelude.{◌≡◌, ◌+◌, ◌≤◌, ◌<◌}
 use Rattle.op_amount.specs.Rates.{share, floor_mul}
 use Rattle.op_amount.specs.declared.TheConstants.{TOP, RATE_TOP}
 use Rattle.op_model.specs.declared.row.OutgoingRow.{OutgoingRow}

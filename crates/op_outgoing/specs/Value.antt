@@ -1,12 +1,11 @@
 -- Quotes and outgoing payments by number.
-use Rattle.std.specs.Prelude.{ℕ, ◌≡◌, Bool, false, true, ◌==◌, List, [], ◌∷◌, ◌++◌, map, All, Some, None}
+use Rattle.std.specs.Prelude.{ℕ, ◌≡◌, Bool, false, ◌==◌, List, [], ◌∷◌, ◌++◌, All, Some}
 use Rattle.std.specs.List.{list_any}
 use Rattle.std.specs.Option.{option_map_or, is_some}
 use Rattle.std.specs.declared.option.Option.{Option}
 use Rattle.op_incoming.specs.declared.incoming.Incoming.{Incoming}
 use Rattle.op_ledger.specs.Balances.{LedgerValue}
 use Rattle.op_model.specs.History.{nth, with_item}
-use Rattle.op_model.specs.Payments.{is_ended}
 use Rattle.op_model.specs.declared.reply.StepAnswer.{StepAnswer}
 use Rattle.op_model.specs.declared.reply.StepAnswer.TheVariants as answers
 use Rattle.op_model.specs.declared.row.OutgoingRow.{OutgoingRow}

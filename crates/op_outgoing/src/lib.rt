@@ -2,6 +2,7 @@
 //! the asset of the payer's wallet address for what is sent and charged, and of the payee's for what is delivered.
 #![tactic(auto)]
 
+mod law;
 mod outgoings;
 mod payments;
 mod progress;
@@ -10,5 +11,6 @@ mod stepping;
 #[cfg(test)]
 mod tests;
 
+pub use law::payments_keep_their_terms;
 pub use op_model::{OutgoingRow, QuoteRow, StepAnswer};
 pub use outgoings::{OutgoingFault, Outgoings};

@@ -1,4 +1,4 @@
-use Rattle.std.proofs.Common.{◌≡◌, ◌<◌, ◌≤◌, ◌-◌, ℕ, List, true, false, refl, ap, sym, subst, ◌∙◌, length, arith, IsTrue, Some, Ok, Err}
+use Rattle.std.proofs.Common.{◌≡◌, ◌-◌, ℕ, List, true, false, refl, ap, sym, subst, ◌∙◌, arith, IsTrue, Ok, Err}
 use Rattle.std.specs.Prelude.{is_some, Result, IsErrAnd}
 use Rattle.op_incoming.proofs.Places.{place_of_some}
 use Rattle.op_model.specs.History.{nth}

@@ -1,5 +1,4 @@
-use Rattle.std.proofs.Common.{◌≡◌, ◌+◌, ◌≤◌, ℕ, List, refl, ap, sym, subst, ◌∙◌, arith, IsTrue}
-use Rattle.op_model.specs.History.{with_item}
+use Rattle.std.proofs.Common.{List, refl, ap, ◌∙◌, arith}
 use Rattle.op_model.specs.declared.act.FailReason.TheVariants.{Cancelled}
 use Rattle.op_model.specs.declared.row.OutgoingRow.{OutgoingRow}
 use Rattle.op_outgoing.specs.Progress.{with_progress}

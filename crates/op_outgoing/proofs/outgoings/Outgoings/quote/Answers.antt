@@ -1,4 +1,4 @@
-use Rattle.std.proofs.Common.{◌≡◌, ◌∙◌, sym, ap}
+use Rattle.std.proofs.Common.{◌∙◌, sym, ap}
 use Rattle.op_model.specs.History.{nth}
 use Rattle.op_outgoing.proofs.Quotes.{quote_found}
 use Rattle.op_outgoing.proofs.outgoings.Outgoings.quote.Goals as goal

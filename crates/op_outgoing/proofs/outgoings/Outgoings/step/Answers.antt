@@ -1,15 +1,11 @@
-use Rattle.std.proofs.Common.{◌≡◌, ◌+◌, ◌≤◌, ℕ, List, refl, ap, sym, subst, ◌∙◌, arith, IsTrue}
-use Rattle.op_ledger.specs.Balances.{held_in}
-use Rattle.op_model.specs.History.{with_item}
-use Rattle.op_model.specs.declared.act.Account.TheVariants.{Wallet}
+use Rattle.std.proofs.Common.{List, refl, ap, ◌∙◌, arith}
 use Rattle.op_model.specs.declared.row.OutgoingRow.{OutgoingRow}
-use Rattle.op_outgoing.specs.Held.{left_of}
 use Rattle.op_outgoing.specs.Progress.{with_progress}
 use Rattle.op_outgoing.specs.Steps.{stepped_row}
 use Rattle.op_outgoing.specs.Value.{OutgoingsValue, with_payment}
 use Rattle.op_outgoing.proofs.Idle.{idle_changes_nothing}
 use Rattle.op_outgoing.proofs.Quotes.{rows_of}
-use Rattle.op_outgoing.proofs.Rows.{with_item-agree, with_item-same, tied_changed, hold-le, held_changed, still_covered, covered_in, held_in_value, covered_in_value}
+use Rattle.op_outgoing.proofs.Rows.{with_item-agree, with_item-same, tied_changed, hold-le, covered_in, held_in_value, covered_in_value}
 use Rattle.op_outgoing.proofs.outgoings.Outgoings.step.Goals as goal
 
 pub take_step-stepped-requires-clause-covered : goal.take_step-stepped-requires-clause-covered
