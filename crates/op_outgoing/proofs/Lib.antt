@@ -2,6 +2,7 @@ pub mod Floors
 pub mod Holding
 pub mod Idle
 pub mod Kept
+pub mod ModelLemmas
 pub mod Quotes
 pub mod Rounds
 pub mod Rows

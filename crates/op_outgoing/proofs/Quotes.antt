@@ -16,7 +16,8 @@ use Rattle.op_model.specs.declared.row.OutgoingRow.{OutgoingRow}
 use Rattle.op_model.specs.declared.row.QuoteRow.{QuoteRow}
 use Rattle.op_model.proofs.Items.{set_at_is_with_item}
 use Rattle.op_outgoing.specs.Sound.{ArePriced, IsSoundRow}
-use Rattle.op_outgoing.specs.Value.{OutgoingsValue, is_from, is_paid_in, with_fresh, fresh_row, AreTied}
+use Rattle.op_outgoing.specs.Tied.{AreTied}
+use Rattle.op_outgoing.specs.Value.{OutgoingsValue, is_from, is_paid_in, with_fresh, fresh_row}
 use Rattle.op_outgoing.specs.declared.quoted.Quoted.{Quoted}
 use Rattle.op_outgoing.proofs.Holding.{zero_share}
 

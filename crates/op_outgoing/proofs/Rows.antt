@@ -15,7 +15,8 @@ use Rattle.op_model.specs.declared.row.OutgoingRow.{OutgoingRow}
 use Rattle.op_model.proofs.Items.{set_is_with_item}
 use Rattle.op_outgoing.specs.Held.{left_by, left_of, IsCovered, HoldsAlike}
 use Rattle.op_outgoing.specs.Steps.{to_hold}
-use Rattle.op_outgoing.specs.Value.{OutgoingsValue, is_from, AreTied}
+use Rattle.op_outgoing.specs.Tied.{AreTied}
+use Rattle.op_outgoing.specs.Value.{OutgoingsValue, is_from}
 use Rattle.op_outgoing.specs.declared.quoted.Quoted.{Quoted}
 
 -- ---- items by number

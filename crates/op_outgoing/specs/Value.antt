@@ -1,5 +1,5 @@
 -- Quotes and outgoing payments by number.
-use Rattle.std.specs.Prelude.{ℕ, ◌≡◌, Bool, false, ◌==◌, List, [], ◌∷◌, ◌++◌, All, Some}
+use Rattle.std.specs.Prelude.{ℕ, Bool, false, ◌==◌, List, [], ◌∷◌, ◌++◌, Some}
 use Rattle.std.specs.List.{list_any}
 use Rattle.std.specs.Option.{option_map_or, is_some}
 use Rattle.std.specs.declared.option.Option.{Option}
@@ -12,11 +12,9 @@ use Rattle.op_model.specs.declared.row.OutgoingRow.{OutgoingRow}
 use Rattle.op_model.specs.declared.row.PaymentState.TheVariants as states
 use Rattle.op_model.specs.declared.row.QuoteRow.{QuoteRow}
 use Rattle.op_outgoing.specs.Answers.{row_answer}
-use Rattle.op_outgoing.specs.Sound.{ArePriced}
 use Rattle.op_outgoing.specs.Steps.{stepped_ledger, stepped_incomings, voided}
 use Rattle.op_outgoing.specs.declared.outgoings.OutgoingFault.{OutgoingFault}
 use Rattle.op_outgoing.specs.declared.outgoings.OutgoingFault.TheVariants as faults
-use Rattle.op_outgoing.specs.declared.quoted.Quoted.{Quoted}
 
 pub record OutgoingsValue : Type 0 where
   pub quotes : List QuoteRow
@@ -47,15 +45,6 @@ quote_expiry value q = option_map_or (λ row. row.expiry) (nth value.quotes q) 0
 
 abbrev pub with_quote : OutgoingsValue → QuoteRow → OutgoingsValue
 with_quote value row = record value { quotes = value.quotes ++ row ∷ [] }
-
--- a quote is there and marked exactly where a payment was made from it
-abbrev pub AreMarked : List Quoted → List OutgoingRow → Type 0
-AreMarked quotes rows = (q : ℕ) → option_map_or (λ quoted. quoted.used) (nth quotes q) false ≡ is_paid_in rows q
-
--- quotes with their marks, and payments
-pub record AreTied (quotes : List Quoted) (rows : List OutgoingRow) : Type 0 where
-  pub priced : All (λ quoted. ArePriced quoted.row.terms) quotes
-  pub marked : AreMarked quotes rows
 
 -- ---- payments
 

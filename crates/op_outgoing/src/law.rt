@@ -1,5 +1,6 @@
-//! The law of a payment's steps.
+//! The laws of a payment's steps.
 
+ghost use Rattle.op_outgoing.specs.Models.{AnswersAreDefined};
 ghost use Rattle.op_outgoing.specs.Runs.{PaymentsKeepTheirTerms};
 
 /// Over any list of steps and cancellings of a payment, whatever the ledger and the incoming payments are at each, each
@@ -7,4 +8,10 @@ ghost use Rattle.op_outgoing.specs.Runs.{PaymentsKeepTheirTerms};
 /// failed one debits what it sent and the floor of its fee.
 pub fn payments_keep_their_terms()
     ensures { PaymentsKeepTheirTerms }
+{}
+
+/// Where the ledger and the incoming payments are as a history has them, a step is answered as the wallet's definitions
+/// say of that history.
+pub fn answers_are_defined()
+    ensures { AnswersAreDefined }
 {}

@@ -55,7 +55,8 @@ pub struct Outgoings {
 
 impl Model for Outgoings {
     ghost use Rattle.std.specs.Prelude.{map};
-    ghost use Rattle.op_outgoing.specs.Value.{OutgoingsValue, AreTied};
+    ghost use Rattle.op_outgoing.specs.Tied.{AreTied};
+    ghost use Rattle.op_outgoing.specs.Value.{OutgoingsValue};
 
     ghost Value = { OutgoingsValue };
 

@@ -1,0 +1,27 @@
+-- The table of steps is that of the wallet's definitions, which speak of a history.
+use Rattle.std.specs.Prelude.{ℕ, ◌≡◌, List, Some}
+use Rattle.op_incoming.specs.Rows.{row_is, is_open_at}
+use Rattle.op_incoming.specs.declared.incoming.Incoming.{Incoming}
+use Rattle.op_ledger.specs.Balances.{LedgerValue, available_in, asset_in}
+use Rattle.op_model.specs.Balances.{available}
+use Rattle.op_model.specs.History.{address_asset}
+use Rattle.op_model.specs.Payments.{outgoing_row}
+use Rattle.op_model.specs.Steps.{is_receiver_open, step_answer}
+use Rattle.op_model.specs.declared.act.Account.TheVariants.{Pool, Wallet}
+use Rattle.op_model.specs.declared.act.Entry.{Entry}
+use Rattle.op_model.specs.declared.row.OutgoingRow.{OutgoingRow}
+use Rattle.op_outgoing.specs.Answers.{row_answer}
+
+-- a ledger and incoming payments are as a history has them, as far as a step of a payment at t looks at them
+pub record StandAs (history : List Entry) (t : ℕ) (row : OutgoingRow) (ledger : LedgerValue) (incomings : List Incoming) : Type 0 where
+  pub payer_asset : asset_in ledger (Wallet row.terms.payer) ≡ address_asset history row.terms.payer
+  pub payee_asset : asset_in ledger (Wallet row.terms.payee) ≡ address_asset history row.terms.payee
+  pub payer : available_in ledger (Wallet row.terms.payer) ≡ available history (Wallet row.terms.payer)
+  pub pool : available_in ledger (Pool (address_asset history row.terms.payee)) ≡ available history (Pool (address_asset history row.terms.payee))
+  pub receiver : row_is (is_open_at t) incomings row.terms.incoming ≡ is_receiver_open history row t
+
+abbrev pub AnswersAreDefined : Type 0
+AnswersAreDefined =
+    (history : List Entry) (ledger : LedgerValue) (incomings : List Incoming) (p k t : ℕ) (row : OutgoingRow) →
+    outgoing_row history p ≡ Some row → StandAs history t row ledger incomings →
+    row_answer ledger incomings k t row ≡ step_answer history p row k t
