@@ -1,3 +1,4 @@
+pub mod Models
 pub mod Numbers
 pub mod Rows
 pub mod Runs

@@ -10,5 +10,5 @@ mod tests;
 
 pub use incoming::{Closing, Incoming, IncomingFault};
 pub use incomings::Incomings;
-pub use law::received_is_a_sum;
+pub use law::{payments_are_defined, received_is_a_sum};
 pub use op_model::IncomingRow;
