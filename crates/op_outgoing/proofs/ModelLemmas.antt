@@ -21,7 +21,7 @@ use Rattle.op_model.specs.declared.row.PaymentState.{PaymentState}
 use Rattle.op_model.specs.declared.row.PaymentState.TheVariants as states
 use Rattle.op_model.proofs.Payments.{sent_after-next}
 use Rattle.op_outgoing.specs.Answers.{funding_answer, sending_answer, state_answer, row_answer}
-use Rattle.op_outgoing.specs.Models.{StandAs, AnswersAreDefined}
+use Rattle.op_outgoing.specs.Models.{StandAs, AnswersAreDefined, PaymentsAreDefined}
 use Rattle.op_outgoing.specs.Pieces.{next_sent, next_delivered}
 
 -- ---- the row of a payment
@@ -97,8 +97,16 @@ made_same history ledger incomings p k t made stand =
     let row = payment_so_far history (p, made) in
     ap (λ answer. cond (k == row.step) answer (answers.Stale row.step)) (state_same row.state history ledger incomings p t made stand)
 
-pub answers_are_defined : AnswersAreDefined
+answers_are_defined : AnswersAreDefined
 answers_are_defined = λ history ledger incomings p k t row found stand.
     let at = row_at (payment_so_far history) (payments_made history) p row found in
     subst (λ r. row_answer ledger incomings k t r ≡ step_answer history p r k t) (sym at.is)
     (made_same history ledger incomings p k t at.made (subst (λ r. StandAs history t r ledger incomings) at.is stand))
+
+pub payments_are_defined : PaymentsAreDefined
+payments_are_defined = record {
+  answers = answers_are_defined;
+  held = λ history account. refl;
+  tasks = λ history t cursor. refl;
+  cursor = λ history t cursor. refl;
+}

@@ -1,6 +1,6 @@
 //! The laws of a payment's steps.
 
-ghost use Rattle.op_outgoing.specs.Models.{AnswersAreDefined};
+ghost use Rattle.op_outgoing.specs.Models.{PaymentsAreDefined};
 ghost use Rattle.op_outgoing.specs.Runs.{PaymentsKeepTheirTerms};
 
 /// Over any list of steps and cancellings of a payment, whatever the ledger and the incoming payments are at each, each
@@ -10,8 +10,8 @@ pub fn payments_keep_their_terms()
     ensures { PaymentsKeepTheirTerms }
 {}
 
-/// Where the ledger and the incoming payments are as a history has them, a step is answered as the wallet's definitions
-/// say of that history.
-pub fn answers_are_defined()
-    ensures { AnswersAreDefined }
+/// Payments are what the wallet's definitions say of a history: where the ledger and the incoming payments are as it has
+/// them, steps are answered as defined, and what is held and the work of a round are as defined.
+pub fn payments_are_defined()
+    ensures { PaymentsAreDefined }
 {}

@@ -11,6 +11,6 @@ mod stepping;
 #[cfg(test)]
 mod tests;
 
-pub use law::{answers_are_defined, payments_keep_their_terms};
+pub use law::{payments_are_defined, payments_keep_their_terms};
 pub use op_model::{OutgoingRow, QuoteRow, StepAnswer};
 pub use outgoings::{OutgoingFault, Outgoings};
