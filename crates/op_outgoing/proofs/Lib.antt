@@ -3,6 +3,7 @@ pub mod Holding
 pub mod Idle
 pub mod Kept
 pub mod ModelLemmas
+pub mod NextRows
 pub mod Quotes
 pub mod Rounds
 pub mod Rows

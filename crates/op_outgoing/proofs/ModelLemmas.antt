@@ -21,14 +21,14 @@ use Rattle.op_model.specs.declared.row.PaymentState.{PaymentState}
 use Rattle.op_model.specs.declared.row.PaymentState.TheVariants as states
 use Rattle.op_model.proofs.Payments.{sent_after-next}
 use Rattle.op_outgoing.specs.Answers.{funding_answer, sending_answer, state_answer, row_answer}
-use Rattle.op_outgoing.specs.Models.{StandAs, AnswersAreDefined, PaymentsAreDefined}
+use Rattle.op_outgoing.specs.Models.{StandAs, AnswersAreDefined}
 use Rattle.op_outgoing.specs.Pieces.{next_sent, next_delivered}
 
 -- ---- the row of a payment
 
-record IsRowOf {A B : Type 0} (f : ℕ × A → B) (n : ℕ) (y : B) : Type 0 where
-  made : A
-  is : y ≡ f (n, made)
+pub record IsRowOf {A B : Type 0} (f : ℕ × A → B) (n : ℕ) (y : B) : Type 0 where
+  pub made : A
+  pub is : y ≡ f (n, made)
 
 some_is : {B : Type 0} (x y : B) → Some x ≡ Some y → y ≡ x
 some_is x y h = cc
@@ -41,7 +41,7 @@ row_from f b (x ∷ xs) (suc i) y h =
     let number : (b + 1) + i ≡ b + suc i = omega arith in
     record { made = rest.made; is = rest.is ∙ ap (λ n. f (n, rest.made)) number }
 
-row_at : {A B : Type 0} (f : ℕ × A → B) (xs : List A) (n : ℕ) (y : B) → nth (map f (numbered xs)) n ≡ Some y → IsRowOf f n y
+pub row_at : {A B : Type 0} (f : ℕ × A → B) (xs : List A) (n : ℕ) (y : B) → nth (map f (numbered xs)) n ≡ Some y → IsRowOf f n y
 row_at f xs zero y h = absurd (let no : None ≡ Some y = h in cc)
 row_at f xs (suc i) y h =
     let row = row_from f 1 xs i y h in
@@ -97,16 +97,8 @@ made_same history ledger incomings p k t made stand =
     let row = payment_so_far history (p, made) in
     ap (λ answer. cond (k == row.step) answer (answers.Stale row.step)) (state_same row.state history ledger incomings p t made stand)
 
-answers_are_defined : AnswersAreDefined
+pub answers_are_defined : AnswersAreDefined
 answers_are_defined = λ history ledger incomings p k t row found stand.
     let at = row_at (payment_so_far history) (payments_made history) p row found in
     subst (λ r. row_answer ledger incomings k t r ≡ step_answer history p r k t) (sym at.is)
     (made_same history ledger incomings p k t at.made (subst (λ r. StandAs history t r ledger incomings) at.is stand))
-
-pub payments_are_defined : PaymentsAreDefined
-payments_are_defined = record {
-  answers = answers_are_defined;
-  held = λ history account. refl;
-  tasks = λ history t cursor. refl;
-  cursor = λ history t cursor. refl;
-}

@@ -11,7 +11,8 @@ pub fn payments_keep_their_terms()
 {}
 
 /// Payments are what the wallet's definitions say of a history: where the ledger and the incoming payments are as it has
-/// them, steps are answered as defined, and what is held and the work of a round are as defined.
+/// them, a step is answered as defined; its entry, and that of a cancelling, change the history's payments as the call
+/// changes those here; and what is held, and the work of a round, are as defined.
 pub fn payments_are_defined()
     ensures { PaymentsAreDefined }
 {}
