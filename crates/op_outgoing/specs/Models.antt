@@ -55,8 +55,8 @@ pub record RowsAreDefined : Type 0 where
       (history : List Entry) (p k t : ℕ) →
       outgoings (history ++ record { at = t; act = OutgoingFailed p k Cancelled } ∷ []) ≡ with_item (ended_as Cancelled) (outgoings history) p
 
--- The answers are those of the definitions, and so are what they make of payments, what is held and the work of a round: first the expiries, and
--- then steps in the room that these leave.
+-- The answers are those of the definitions, and so are what they make of payments, what is held and the work of a round:
+-- first the expiries, and then steps in the room that these leave.
 pub record PaymentsAreDefined : Type 0 where
   pub answers : AnswersAreDefined
   pub rows : RowsAreDefined
