@@ -1,0 +1,5 @@
+pub mod Models
+pub mod Numbers
+pub mod Rows
+pub mod Runs
+pub mod Within

@@ -1,0 +1,11 @@
+pub mod Answers
+pub mod Held
+pub mod Models
+pub mod Pieces
+pub mod Progress
+pub mod Runs
+pub mod Sound
+pub mod Steps
+pub mod Tied
+pub mod Value
+pub mod Work
