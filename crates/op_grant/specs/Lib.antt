@@ -1,1 +1,6 @@
+pub mod Indexed
+pub mod Limits
+pub mod Places
+pub mod Rows
 pub mod Tokens
+pub mod Value

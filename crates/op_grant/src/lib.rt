@@ -2,9 +2,13 @@
 #![tactic(auto)]
 
 mod fault;
+mod grants;
+mod limits;
+mod rows;
 mod tokens;
 
 pub use fault::{GrantFault, Proceeded};
+pub use grants::Grants;
 pub use op_model::{
     Asked, Cap, Finish, GrantRow, GrantState, Interact, IntervalText, Item, Limits, Rows, Sum,
 };

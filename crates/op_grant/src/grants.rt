@@ -1,0 +1,131 @@
+//! Grants by number, and what was spent under them.
+
+ghost use Rattle.std.specs.Prelude.{◌≡◌, ◌≢◌, ◌≤◌, ◌↔◌, [], length, IsTrue, IsErr, OnOk, OnErr, IfOk, IfErr, Some, None, not, option_map, option_map_or};
+ghost use Rattle.std.specs.Option.{option_copied};
+ghost use Rattle.op_model.specs.History.{nth};
+ghost use Rattle.op_model.specs.GrantAnswers.{is_pending};
+ghost use Rattle.op_grant.specs.Value.{no_grants, has_row, with_grant, with_row, spent_in, spent_more, spent_less};
+ghost use Rattle.op_grant.specs.Limits.{may_spend_answer, covers_spending, are_readable};
+ghost use Rattle.op_grant.specs.Places.{IsNewPlace};
+ghost use Rattle.op_grant.specs.Rows.{at_row, asked_row, ask_fault, decided, proceed_answer, proceeded_row, cancel_answer, cancelled, token_answer, rotated, revoked, grant_of_live};
+ghost use Rattle.op_grant.specs.declared.fault.GrantFault.TheVariants as faults;
+
+use crate::fault::{GrantFault, Proceeded};
+use crate::limits;
+use crate::rows;
+use crate::tokens::{Token, Tokens};
+use op_model::{Asked, GrantRow, GrantState, Sum};
+use op_names::SecretText;
+use op_time::Moment;
+use std::alloc::{AllocError, Global};
+use std::collections::BTreeMap;
+use std::marker::Model;
+
+/// Grants by number, from 1, in the order in which they were asked for (GNAP, RFC 9635), and what was spent under each
+/// in each interval of its limits, in smallest units of the cap's asset.
+///
+/// A grant is found by its access token without a walk over the others. A refused call leaves all as it was. Only `ask`
+/// and `spend` take memory.
+#[derive(Drop)]
+pub struct Grants {
+    rows: Vec<GrantRow>,
+    tokens: Tokens,
+    spent: BTreeMap<(u64, u64), u64>,
+}
+
+impl Model for Grants {
+    ghost use Rattle.op_grant.specs.Value.{GrantsValue};
+    ghost use Rattle.op_grant.specs.Indexed.{IsKept};
+
+    ghost Value = { GrantsValue };
+
+    ghost view = { λ a. record { rows = a.rows.items; spent = a.spent.entries } };
+
+    ghost invariant = { λ a. IsKept a.tokens a.rows.items };
+}
+
+impl Grants {
+    /// No grants. Takes no memory.
+    pub fn new(alloc: Global) -> Grants
+        ensures { result ≡ no_grants }
+    {
+        Grants {
+            rows: Vec::new(alloc),
+            tokens: Tokens::new(alloc),
+            spent: BTreeMap::new(alloc),
+        }
+    }
+
+    /// How many grants there are.
+    pub fn count(&self) -> u64
+        ensures { result ≡ length self.now.rows }
+    {
+        self.rows.len() as u64
+    }
+
+    /// Grant `n`. `None` exactly where it is not there.
+    pub fn row(&self, n: u64) -> Option<&GrantRow>
+        ensures { option_copied result ≡ nth self.now.rows n }
+    {
+        let place = n.checked_sub(1)?;
+        self.rows.get(place as usize)
+    }
+
+    /// Asks for a grant at a moment (RFC 9635, section 2), and answers its number. It is issued at once where it has no
+    /// item for outgoing payments; else it waits for the provider.
+    pub fn ask(
+        &mut self,
+        t: Moment,
+        word: &[u8; 16],
+        place: u64,
+        asked: Asked,
+    ) -> Result<u64, GrantFault>
+        requires place { IsNewPlace place self.old.rows }
+        requires intervals { IsTrue (are_readable asked.items) }
+        ensures ok { IfOk result
+            (λ n. (self.new ≡ with_grant self.old (asked_row t word.now place asked)) × (n ≡ length self.new.rows)) }
+        ensures passes { OnOk result (ask_fault asked ≡ None) }
+        ensures fault { IfErr result (λ e. e ≢ faults.Memory → ask_fault asked ≡ Some e) }
+        ensures err { OnErr result (self.new ≡ self.old) }
+    {
+        let immediate = rows::is_immediate(asked.items.as_slice());
+        if !immediate && !rows::is_redirect(&asked.interact) {
+            return Err(GrantFault::InvalidInteraction);
+        }
+        if asked.strange {
+            return Err(GrantFault::RequestDenied);
+        }
+        self.rows.reserve(1)?;
+        self.tokens.reserve(self.rows.len() + 1 - self.tokens.len())?;
+        let n = self.rows.len() as u64 + 1;
+        self.rows.push_reserved(rows::asked_row(t, word, place, asked));
+        if immediate {
+            self.tokens.push(Token { place, grant: n });
+        }
+        Ok(n)
+    }
+
+    /// Accepts or rejects a grant for the provider. `NotPending` exactly where it was decided or cancelled before, or
+    /// issued at once.
+    pub fn decide(
+        &mut self,
+        n: u64,
+        accept: bool,
+        word: &[u8; 16],
+        place: u64,
+    ) -> Result<(), GrantFault>
+        requires there { IsTrue (has_row self.old n) }
+        requires place { IsNewPlace place self.old.rows }
+        ensures ok { OnOk result (self.new ≡ with_row (decided accept word.now place) self.old n) }
+        ensures pending { IsErr result
+            ↔ IsTrue (option_map_or (λ row. not (is_pending row.state)) (nth self.old.rows n) true) }
+        ensures err { IfErr result (λ e. (e ≡ faults.NotPending) × (self.new ≡ self.old)) }
+    {
+        let row = &mut self.rows[n as usize - 1];
+        if !rows::is_pending(row) {
+            return Err(GrantFault::NotPending);
+        }
+        rows::decide(row, accept, word, place);
+        Ok(())
+    }
+}

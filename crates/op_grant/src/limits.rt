@@ -1,0 +1,104 @@
+//! The limits of what a client asks for.
+
+ghost use Rattle.std.specs.Prelude.{◌≡◌, IsTrue};
+ghost use Rattle.std.specs.Option.{option_copied};
+ghost use Rattle.op_model.specs.Grants.{limits_of, cap_of, repeats, interval_at, inside};
+ghost use Rattle.op_grant.specs.Limits.{counted, is_other_receiver, is_other_asset, passes_cap, are_readable, is_readable};
+ghost use Rattle.op_time.specs.Texts.{interval_of};
+
+use op_model::{Cap, IntervalText, Item, Limits, Sum};
+use op_time::{Interval, Moment, Place, read_interval};
+use std::str;
+
+/// The type of items for outgoing payments, which alone have limits.
+const OUTGOING: u8 = 3;
+
+fn limits_of(items: &[Item]) -> Option<&Limits>
+    ensures { option_copied result ≡ limits_of items.now }
+{
+    match items.iter().find(|item| item.kind == OUTGOING) {
+        Some(item) => item.limits.as_ref(),
+        None => None,
+    }
+}
+
+/// The cap of what may be spent, if there is one.
+pub(crate) fn cap_of(items: &[Item]) -> Option<Cap>
+    ensures { result ≡ cap_of items.now }
+{
+    limits_of(items)?.cap
+}
+
+/// Whether the limits name another receiver.
+pub(crate) fn is_other_receiver(items: &[Item], receiver: u64) -> bool
+    ensures { result ≡ is_other_receiver items.now receiver }
+{
+    match limits_of(items) {
+        Some(limits) => match limits.receiver {
+            Some(named) => named != receiver,
+            None => false,
+        },
+        None => false,
+    }
+}
+
+/// What a cap counts: what is debited, or what is received.
+pub(crate) fn counted(cap: &Cap, debit: Sum, receive: Sum) -> Sum
+    ensures { result ≡ counted debit receive cap.now }
+{
+    if cap.debit { debit } else { receive }
+}
+
+/// Whether a cap is in another asset than what it counts.
+pub(crate) fn is_other_asset(cap: &Cap, debit: Sum, receive: Sum) -> bool
+    ensures { result ≡ is_other_asset debit receive cap.now }
+{
+    cap.sum.asset != counted(cap, debit, receive).asset
+}
+
+/// Whether a value would pass a cap, in smallest units of its asset, where so much was spent before.
+pub(crate) fn passes_cap(cap: &Cap, spent: u64, value: u64) -> bool
+    ensures { result ≡ passes_cap spent value cap.now }
+{
+    let top = cap.sum.value;
+    match spent.checked_add(value) {
+        Some(sum) => sum > top,
+        None => true,
+    }
+}
+
+// The interval that a text names.
+fn read(text: &IntervalText) -> Option<Interval>
+    requires { IsTrue (is_readable text.now) }
+    ensures { result ≡ interval_of text.now }
+{
+    match str::from_utf8(text.bytes()) {
+        Ok(text) => read_interval(text).ok(),
+        Err(_) => unreachable!(),
+    }
+}
+
+// How the limits repeat, if they do.
+fn repeats(items: &[Item]) -> Option<Interval>
+    requires { IsTrue (are_readable items.now) }
+    ensures { result ≡ repeats items.now }
+{
+    let limits = limits_of(items)?;
+    let text = limits.interval.as_ref()?;
+    read(text)
+}
+
+/// The number, from 0, of the interval in which a moment lies: 0 for all moments where the limits do not repeat.
+pub(crate) fn interval_at(items: &[Item], t: Moment) -> Option<u64>
+    requires { IsTrue (are_readable items.now) }
+    ensures { result ≡ interval_at items.now t }
+{
+    let Some(interval) = repeats(items) else {
+        return Some(0);
+    };
+    match interval.index_at(t) {
+        Place::Inside(number) => Some(number),
+        Place::Before => None,
+        Place::After => None,
+    }
+}
