@@ -1,2 +1,3 @@
 pub mod LimitFacts
+pub mod Numbered
 pub mod TokenLists

@@ -52,6 +52,9 @@ ask_fault asked =
 
 -- ---- deciding (own)
 
+abbrev pub decide_answer : GrantRow → Result (Unit {0}) GrantFault
+decide_answer row = if is_pending row.state then Ok tt else Err faults.NotPending
+
 abbrev pub decided : Bool → List ℕ → ℕ → GrantRow → GrantRow
 decided accept word place row =
     record row { state = if accept then states.Accepted else states.Rejected; reference = Some (secret_text letters.Interaction word place) }

@@ -1,19 +1,18 @@
 //! Grants by number, and what was spent under them.
 
-ghost use Rattle.std.specs.Prelude.{◌≡◌, ◌≢◌, ◌≤◌, ◌↔◌, [], length, IsTrue, IsErr, OnOk, OnErr, IfOk, IfErr, Some, None, not, option_map, option_map_or};
+ghost use Rattle.std.specs.Prelude.{◌≡◌, ◌≢◌, [], length, IsTrue, OnOk, OnErr, IfOk, IfErr, Some, None};
 ghost use Rattle.std.specs.Option.{option_copied};
 ghost use Rattle.op_model.specs.History.{nth};
-ghost use Rattle.op_model.specs.GrantAnswers.{is_pending};
 ghost use Rattle.op_grant.specs.Value.{no_grants, has_row, with_grant, with_row, spent_in, spent_more, spent_less};
 ghost use Rattle.op_grant.specs.Limits.{may_spend_answer, covers_spending, are_readable};
 ghost use Rattle.op_grant.specs.Places.{IsNewPlace};
-ghost use Rattle.op_grant.specs.Rows.{at_row, asked_row, ask_fault, decided, proceed_answer, proceeded_row, cancel_answer, cancelled, token_answer, rotated, revoked, grant_of_live};
+ghost use Rattle.op_grant.specs.Rows.{at_row, asked_row, ask_fault, decide_answer, decided, proceed_answer, proceeded_row, cancel_answer, cancelled, token_answer, rotated, revoked, grant_of_live};
 ghost use Rattle.op_grant.specs.declared.fault.GrantFault.TheVariants as faults;
 
 use crate::fault::{GrantFault, Proceeded};
 use crate::limits;
 use crate::rows;
-use crate::tokens::{Token, Tokens};
+use crate::tokens::{Token, Tokens, place_of};
 use op_model::{Asked, GrantRow, GrantState, Sum};
 use op_names::SecretText;
 use op_time::Moment;
@@ -116,10 +115,9 @@ impl Grants {
     ) -> Result<(), GrantFault>
         requires there { IsTrue (has_row self.old n) }
         requires place { IsNewPlace place self.old.rows }
+        ensures answer { result ≡ at_row decide_answer self.old n }
         ensures ok { OnOk result (self.new ≡ with_row (decided accept word.now place) self.old n) }
-        ensures pending { IsErr result
-            ↔ IsTrue (option_map_or (λ row. not (is_pending row.state)) (nth self.old.rows n) true) }
-        ensures err { IfErr result (λ e. (e ≡ faults.NotPending) × (self.new ≡ self.old)) }
+        ensures err { OnErr result (self.new ≡ self.old) }
     {
         let row = &mut self.rows[n as usize - 1];
         if !rows::is_pending(row) {
@@ -127,5 +125,100 @@ impl Grants {
         }
         rows::decide(row, accept, word, place);
         Ok(())
+    }
+
+    /// Continues a grant at a moment, by its last continuation token and a reference, if one is given (RFC 9635, section
+    /// 5). `Issued` gives it its first access token and its next continuation token. Takes no memory.
+    pub fn proceed(
+        &mut self,
+        n: u64,
+        t: Moment,
+        token: &SecretText,
+        reference: Option<&SecretText>,
+        word: &[u8; 16],
+        place: u64,
+    ) -> Result<Proceeded, GrantFault>
+        requires there { IsTrue (has_row self.old n) }
+        requires place { IsNewPlace place self.old.rows }
+        ensures answer { result ≡ at_row (proceed_answer t token.now (option_copied reference.entry)) self.old n }
+        ensures ok { IfOk result (λ p. self.new ≡ with_row (proceeded_row t word.now place p) self.old n) }
+        ensures err { OnErr result (self.new ≡ self.old) }
+    {
+        let row = &mut self.rows[n as usize - 1];
+        let answer = rows::proceed_answer(row, t, token, reference)?;
+        match answer {
+            Proceeded::Polled => rows::poll(row, t),
+            Proceeded::Issued => {
+                let old = row.access;
+                rows::issue(row, t, word, place);
+                self.tokens.replace(old, Token { place, grant: n });
+            }
+        }
+        Ok(answer)
+    }
+
+    /// Cancels a grant by its last continuation token (RFC 9635, section 5.4), also one that was issued. Its access token
+    /// is found no more.
+    pub fn cancel(&mut self, n: u64, token: &SecretText) -> Result<(), GrantFault>
+        requires { IsTrue (has_row self.old n) }
+        ensures answer { result ≡ at_row (cancel_answer token.now) self.old n }
+        ensures ok { OnOk result (self.new ≡ with_row cancelled self.old n) }
+        ensures err { OnErr result (self.new ≡ self.old) }
+    {
+        let row = &mut self.rows[n as usize - 1];
+        rows::cancel_answer(row, token)?;
+        row.state = GrantState::Cancelled;
+        Ok(())
+    }
+
+    /// Gives a grant a new access token for its current one, whatever that one's age (RFC 9635, section 6.1). The old one
+    /// is found no more. Takes no memory.
+    pub fn rotate(
+        &mut self,
+        n: u64,
+        t: Moment,
+        token: &SecretText,
+        word: &[u8; 16],
+        place: u64,
+    ) -> Result<(), GrantFault>
+        requires there { IsTrue (has_row self.old n) }
+        requires place { IsNewPlace place self.old.rows }
+        ensures answer { result ≡ at_row (token_answer token.now) self.old n }
+        ensures ok { OnOk result (self.new ≡ with_row (rotated t word.now place) self.old n) }
+        ensures err { OnErr result (self.new ≡ self.old) }
+    {
+        let row = &mut self.rows[n as usize - 1];
+        rows::token_answer(row, token)?;
+        let old = row.access;
+        rows::rotate(row, t, word, place);
+        self.tokens.replace(old, Token { place, grant: n });
+        Ok(())
+    }
+
+    /// Revokes a grant's current access token, whatever its age (RFC 9635, section 6.2). It is found no more.
+    pub fn revoke(&mut self, n: u64, token: &SecretText) -> Result<(), GrantFault>
+        requires { IsTrue (has_row self.old n) }
+        ensures answer { result ≡ at_row (token_answer token.now) self.old n }
+        ensures ok { OnOk result (self.new ≡ with_row revoked self.old n) }
+        ensures err { OnErr result (self.new ≡ self.old) }
+    {
+        let row = &mut self.rows[n as usize - 1];
+        rows::token_answer(row, token)?;
+        row.revoked = true;
+        Ok(())
+    }
+
+    /// The number of the grant whose live access token this is at a moment. A token lives for 600000 ms from its issue or
+    /// rotation. It is found by the place in it, without a walk.
+    pub fn grant_of(&self, token: &SecretText, t: Moment) -> Option<u64>
+        ensures { result ≡ grant_of_live self.now t token.now }
+    {
+        let n = self.tokens.find(place_of(token)?)?;
+        let row = self.row(n)?;
+        if rows::is_live(row, t, token) {
+            Some(n)
+        } else {
+            None
+        }
     }
 }

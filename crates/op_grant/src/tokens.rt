@@ -1,8 +1,10 @@
 //! Which grant an access token belongs to, by the place of the entry that drew it.
 
-ghost use Rattle.std.specs.Prelude.{◌≡◌, ◌≤◌, ◌<◌, ◌+◌, [], ◌∷◌, ◌++◌, None, OnOk, OnErr, MatchOption, All, length};
+ghost use Rattle.std.specs.Prelude.{◌≡◌, ◌≤◌, ◌<◌, ◌+◌, [], ◌∷◌, ◌++◌, ℕ, Some, None, OnOk, OnErr, MatchOption, All, length};
 ghost use Rattle.op_grant.specs.Tokens.{grant_at, left, IsTokenAt};
+ghost use Rattle.op_grant.specs.Indexed.{IsDrawnAt, IsFound};
 
+use op_names::{SecretText, read_secret};
 use std::alloc::{AllocError, Global};
 use std::marker::Model;
 
@@ -97,4 +99,39 @@ impl Tokens {
             self.kept.remove(at);
         }
     }
+
+    /// Puts a token behind those that are there, in the stead of its grant's last one. Takes no memory.
+    pub(crate) fn replace(&mut self, last: Option<SecretText>, token: Token)
+        requires room { MatchOption last (0 < self.old.room) (IsFound self.old.tokens token.grant) }
+        requires behind { All (λ t. t.place < token.place) self.old.tokens }
+        ensures tokens { MatchOption last (self.new.tokens ≡ self.old.tokens ++ token ∷ [])
+            (λ text. (place : ℕ) → IsDrawnAt place text
+                → self.new.tokens ≡ left place self.old.tokens ++ token ∷ []) }
+        ensures room { self.new.room + length self.new.tokens ≡ self.old.room + length self.old.tokens }
+    {
+        self.take_away(last);
+        self.push(token);
+    }
+
+    // Takes away the token with a text, if one is given.
+    fn take_away(&mut self, last: Option<SecretText>)
+        ensures tokens { MatchOption last (self.new.tokens ≡ self.old.tokens)
+            (λ text. (place : ℕ) → IsDrawnAt place text → self.new.tokens ≡ left place self.old.tokens) }
+        ensures room { self.new.room + length self.new.tokens ≡ self.old.room + length self.old.tokens }
+    {
+        if let Some(text) = last {
+            match place_of(&text) {
+                Some(place) => self.remove(place),
+                None => {}
+            }
+        }
+    }
+}
+
+/// The place of the entry that drew the access token with this text.
+pub(crate) fn place_of(text: &SecretText) -> Option<u64>
+    ensures { (place : ℕ) → IsDrawnAt place text.now → result ≡ Some place }
+{
+    let (_, _, place) = read_secret(text.as_bytes())?;
+    Some(place)
 }
