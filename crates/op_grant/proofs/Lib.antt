@@ -1,3 +1,4 @@
+pub mod Indexing
 pub mod LimitFacts
 pub mod Numbered
 pub mod TokenLists

@@ -1,0 +1,145 @@
+-- What calls leave of the index of access tokens.
+use Rattle.std.proofs.Common.{◌≡◌, ◌≢◌, ℕ, zero, suc, ◌+◌, ◌-◌, ◌^◌, ◌<◌, ◌≤◌, Bool, true, false, cond, List, [], ◌∷◌, ◌++◌, length, map, get_or, refl, sym, ap, subst, ◌∙◌, arith, length-append, IsTrue, ⊎_elim, ◌⊎◌, inl, inr}
+use Rattle.std.specs.Prelude.{Some, None, ◌==◌, not, ◌&&◌, slice_get, sum_by, count_by, All, filter, MatchOption}
+use Rattle.std.specs.List.{list_all, find}
+use Rattle.std.specs.Option.{option_map, is_some, option_to_list}
+use Rattle.std.specs.declared.option.Option.{Option}
+use Rattle.std.proofs.lemmas.Bool.Decides.{nat_tests}
+use Rattle.std.proofs.lemmas.List.Elements.{All-append, All-filter, filter_passes}
+use Rattle.std.proofs.lemmas.List.Sums.{sum_by-append}
+use Rattle.op_names.specs.Secrets.{secret_text, IsDrawn}
+use Rattle.op_names.specs.declared.Letter.TheVariants.{Access}
+use Rattle.op_names.proofs.SecretTexts.{same_place}
+use Rattle.op_model.specs.History.{nth, with_item}
+use Rattle.op_model.specs.declared.row.GrantRow.{GrantRow}
+use Rattle.op_grant.specs.declared.tokens.Token.{Token}
+use Rattle.op_grant.specs.Tokens.{TokensValue, grant_at, left}
+use Rattle.op_grant.specs.Limits.{are_readable}
+use Rattle.op_grant.specs.Places.{secrets_of, IsDrawnBefore, IsNewPlace}
+use Rattle.op_grant.specs.Indexed.{accesses, asked_items, IsDrawnAt, IsFound, IsHeld, AreIndexed, IsKept}
+use Rattle.op_grant.proofs.TokenLists.{all_at, grant_at-append, grant_at-last, grant_at-left, length-left, fewer_without}
+use Rattle.op_grant.proofs.Numbered.{nth-changed, nth-other, map-with_item, map-unchanged, length-with_item, sum_by-with_item, nth-append, nth-last, nth_either, nth-map, of_map}
+
+some_is : {X : Type 0} (x y : X) → Some x ≡ Some y → x ≡ y
+some_is x y h = cc
+
+-- one place is drawn once
+pub one_place : (p q : ℕ) (text : List ℕ) → IsDrawnAt p text → IsDrawnAt q text → p ≡ q
+one_place p q text a b = same_place text Access Access a.word b.word p q a.drawn b.drawn a.small b.small a.is b.is
+
+number_cases : (m n : ℕ) → (m ≡ n) ⊎ (m ≢ n)
+number_cases zero zero = inl refl
+number_cases zero (suc n) = inr (λ e. absurd (omega (arith, e)))
+number_cases (suc m) zero = inr (λ e. absurd (omega (arith, e)))
+number_cases (suc m) (suc n) = ⊎_elim (λ e. inl (ap suc e)) (λ d. inr (λ e. d (omega (arith, e)))) (number_cases m n)
+
+abbrev pub Texts : Type 0
+Texts = List (Option (List ℕ))
+
+-- ---- a token in the stead of its grant's last one
+
+-- the texts with that of grant n
+abbrev pub with_text : Texts → ℕ → List ℕ → Texts
+with_text texts n text = with_item (λ _. Some text) texts n
+
+held_other : (texts : Texts) (n : ℕ) (text : List ℕ) (t : Token) → t.grant ≢ n → IsHeld texts t → IsHeld (with_text texts n text) t
+held_other texts n text t apart h =
+    record { text = h.text; there = nth-other (λ _. Some text) texts n t.grant apart ∙ h.there; drawn = h.drawn }
+
+held_new : (texts : Texts) (n place : ℕ) (text : List ℕ) (last : Option (List ℕ)) → nth texts n ≡ Some last → IsDrawnAt place text → IsHeld (with_text texts n text) (record { place = place; grant = n })
+held_new texts n place text last h drawn =
+    record { text = text; there = nth-changed (λ _. Some text) texts n last h; drawn = drawn }
+
+none_some : (texts : Texts) (n : ℕ) (s : List ℕ) → nth texts n ≡ Some None → nth texts n ≡ Some (Some s) → ⊥
+none_some texts n s h e =
+    let same : None ≡ Some s = some_is None (Some s) (sym h ∙ e) in
+    cc
+
+-- all that is so of each item
+all_items : {X : Type 0} (P Q : X → Type 0) (xs : List X) → ((x : X) → P x → Q x) → All P xs → All Q xs
+all_items P Q xs each all k d h = each (get_or xs k d) (all k d h)
+
+all_both : {X : Type 0} (P Q R : X → Type 0) (xs : List X) → ((x : X) → P x → Q x → R x) → All P xs → All Q xs → All R xs
+all_both P Q R xs each p q k d h = each (get_or xs k d) (p k d h) (q k d h)
+
+one_item : {X : Type 0} (P : X → Type 0) (x : X) → P x → All P (x ∷ [])
+one_item P x h zero d within = h
+one_item P x h (suc k) d within = absurd (omega (arith, within))
+
+abbrev token : ℕ → ℕ → Token
+token place n = record { place = place; grant = n }
+
+-- what is found of the new texts, where all others are found as before
+found_step : (texts : Texts) (tokens : List Token) (n place m : ℕ) (text s : List ℕ) (last : Option (List ℕ)) → nth texts n ≡ Some last → IsDrawnAt place text
+    → grant_at tokens place ≡ Some n
+    → (m ≢ n → nth texts m ≡ Some (Some s) → IsFound tokens m s)
+    → (m ≡ n) ⊎ (m ≢ n) → nth (with_text texts n text) m ≡ Some (Some s) → IsFound tokens m s
+found_step texts tokens n place m text s last there drawn at others (inl same) h =
+    let here : nth (with_text texts n text) m ≡ Some (Some text) = ap (nth (with_text texts n text)) same ∙ nth-changed (λ _. Some text) texts n last there in
+    let is : text ≡ s = some_is text s (some_is (Some text) (Some s) (sym here ∙ h)) in
+    record { place = place; drawn = subst (IsDrawnAt place) is drawn; at = at ∙ ap (λ k. Some k) (sym same) }
+found_step texts tokens n place m text s last there drawn at others (inr apart) h =
+    others apart (sym (nth-other (λ _. Some text) texts n m apart) ∙ h)
+
+abbrev weight : Option (List ℕ) → ℕ
+weight o = cond (is_some o) 1 0
+
+-- a grant that had no token
+issued_first : (old new : TokensValue) (texts : Texts) (n place : ℕ) (text : List ℕ) → AreIndexed old texts → nth texts n ≡ Some None → IsDrawnAt place text
+    → All (λ t. t.place < place) old.tokens → new.tokens ≡ old.tokens ++ token place n ∷ [] → new.room + length new.tokens ≡ old.room + length old.tokens
+    → AreIndexed new (with_text texts n text)
+issued_first old new texts n place text h there drawn behind is room =
+    let count = sum_by-with_item weight (λ _. Some text) texts n None there in
+    let longer = length-append old.tokens (token place n ∷ []) in
+    let size = ap length is in
+    let last = grant_at-last old.tokens (token place n) behind in
+    record {
+      found = λ m s e. subst (λ ts. IsFound ts m s) (sym is)
+          (found_step texts (old.tokens ++ token place n ∷ []) n place m text s None there drawn last
+          (λ apart g. let f = h.found m s g in record { place = f.place; drawn = f.drawn; at = grant_at-append old.tokens (token place n) f.place m f.at })
+          (number_cases m n) e);
+      held = subst (All (IsHeld (with_text texts n text))) (sym is)
+          (All-append (IsHeld (with_text texts n text)) old.tokens (token place n ∷ [])
+          (all_items (IsHeld texts) (IsHeld (with_text texts n text)) old.tokens
+          (λ t k. held_other texts n text t (λ e. none_some texts n k.text there (ap (nth texts) (sym e) ∙ k.there)) k) h.held)
+          (one_item (IsHeld (with_text texts n text)) (token place n) (held_new texts n place text None there drawn)));
+      few = omega (arith, count, longer, size, h.few);
+      room = omega (arith, length-with_item (λ _. Some text) texts n, room, h.room);
+    }
+
+place_apart : (t : Token) (place : ℕ) → not (t.place == place) ≡ true → t.place ≢ place
+place_apart t place h e = absurd (let same : (t.place == place) ≡ true = grind (arith, nat_tests) in let f : not true ≡ true = ap not (sym same) ∙ h in let g : false ≡ true = f in cc)
+
+-- a grant that had one
+issued_again : (old new : TokensValue) (texts : Texts) (n place : ℕ) (text past : List ℕ) (f : IsFound old.tokens n past) → AreIndexed old texts → nth texts n ≡ Some (Some past) → IsDrawnAt place text
+    → All (λ t. t.place < place) old.tokens → new.tokens ≡ left f.place old.tokens ++ token place n ∷ [] → new.room + length new.tokens ≡ old.room + length old.tokens
+    → AreIndexed new (with_text texts n text)
+issued_again old new texts n place text past f h there drawn behind is room =
+    let count = sum_by-with_item weight (λ _. Some text) texts n (Some past) there in
+    let kept = left f.place old.tokens in
+    let longer = length-append kept (token place n ∷ []) in
+    let size = ap length is in
+    let fewer = fewer_without f.place n old.tokens f.at in
+    let last = grant_at-last kept (token place n) (All-filter (λ t. not (t.place == f.place)) (λ t. t.place < place) old.tokens behind) in
+    record {
+      found = λ m s e. subst (λ ts. IsFound ts m s) (sym is)
+          (found_step texts (kept ++ token place n ∷ []) n place m text s (Some past) there drawn last
+          (λ apart g. let k = h.found m s g in
+          let elsewhere : k.place ≢ f.place = λ q. apart (some_is m n (sym k.at ∙ ap (grant_at old.tokens) q ∙ f.at)) in
+          record { place = k.place; drawn = k.drawn; at = grant_at-append kept (token place n) k.place m (grant_at-left f.place k.place old.tokens elsewhere ∙ k.at) })
+          (number_cases m n) e);
+      held = subst (All (IsHeld (with_text texts n text))) (sym is)
+          (All-append (IsHeld (with_text texts n text)) kept (token place n ∷ [])
+          (all_both (λ t. not (t.place == f.place) ≡ true) (IsHeld texts) (IsHeld (with_text texts n text)) kept
+          (λ t passes k. held_other texts n text t
+          (λ e. place_apart t f.place passes (one_place t.place f.place k.text k.drawn (subst (IsDrawnAt f.place) (some_is past k.text (some_is (Some past) (Some k.text) (sym there ∙ ap (nth texts) (sym e) ∙ k.there))) f.drawn))) k)
+          (filter_passes (λ t. not (t.place == f.place)) old.tokens) (All-filter (λ t. not (t.place == f.place)) (IsHeld texts) old.tokens h.held))
+          (one_item (IsHeld (with_text texts n text)) (token place n) (held_new texts n place text (Some past) there drawn)));
+      few = omega (arith, count, longer, size, fewer, h.few);
+      room = omega (arith, length-with_item (λ _. Some text) texts n, room, h.room);
+    }
+
+-- what the index is told of a new token
+abbrev pub Replaces : TokensValue → TokensValue → Option (List ℕ) → Token → Type 0
+Replaces old new last t =
+    MatchOption last (new.tokens ≡ old.tokens ++ t ∷ []) (λ text. (place : ℕ) → IsDrawnAt place text → new.tokens ≡ left place old.tokens ++ t ∷ [])
