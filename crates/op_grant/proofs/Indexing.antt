@@ -6,7 +6,7 @@ use Rattle.std.specs.Option.{option_map, is_some, option_to_list}
 use Rattle.std.specs.declared.option.Option.{Option}
 use Rattle.std.proofs.lemmas.Bool.Decides.{nat_tests}
 use Rattle.std.proofs.lemmas.List.Elements.{All-append, All-filter, filter_passes}
-use Rattle.std.proofs.lemmas.List.Sums.{sum_by-append}
+use Rattle.std.proofs.lemmas.List.Sums.{count_by-le-length}
 use Rattle.op_names.specs.Secrets.{secret_text, IsDrawn}
 use Rattle.op_names.specs.declared.Letter.TheVariants.{Access}
 use Rattle.op_names.proofs.SecretTexts.{same_place}
@@ -143,3 +143,80 @@ issued_again old new texts n place text past f h there drawn behind is room =
 abbrev pub Replaces : TokensValue → TokensValue → Option (List ℕ) → Token → Type 0
 Replaces old new last t =
     MatchOption last (new.tokens ≡ old.tokens ++ t ∷ []) (λ text. (place : ℕ) → IsDrawnAt place text → new.tokens ≡ left place old.tokens ++ t ∷ [])
+
+abbrev pub TakesAway : TokensValue → TokensValue → Option (List ℕ) → Type 0
+TakesAway old new last =
+    MatchOption last (new.tokens ≡ old.tokens) (λ text. (place : ℕ) → IsDrawnAt place text → new.tokens ≡ left place old.tokens)
+
+-- behind a token that is taken away there is room
+pub room_left : (old new : TokensValue) (last : Option (List ℕ)) (n : ℕ) → MatchOption last (0 < old.room) (IsFound old.tokens n) → TakesAway old new last → new.room + length new.tokens ≡ old.room + length old.tokens → 0 < new.room
+room_left old new None n h takes room = omega (arith, h, room, ap length takes)
+room_left old new (Some text) n h takes room =
+    omega (arith, room, ap length (takes h.place h.drawn), fewer_without h.place n old.tokens h.at)
+
+pub behind_left : (old new : TokensValue) (last : Option (List ℕ)) (n place : ℕ) → MatchOption last (0 < old.room) (IsFound old.tokens n) → TakesAway old new last → All (λ t. t.place < place) old.tokens → All (λ t. t.place < place) new.tokens
+behind_left old new None n place h takes behind = subst (All (λ t. t.place < place)) (sym takes) behind
+behind_left old new (Some text) n place h takes behind =
+    subst (All (λ t. t.place < place)) (sym (takes h.place h.drawn)) (All-filter (λ t. not (t.place == h.place)) (λ t. t.place < place) old.tokens behind)
+
+-- ---- a new token of a grant
+
+pub issued : (old new : TokensValue) (texts : Texts) (n place : ℕ) (text : List ℕ) (last : Option (List ℕ)) → AreIndexed old texts → nth texts n ≡ Some last → IsDrawnAt place text
+    → All (λ t. t.place < place) old.tokens → Replaces old new last (token place n) → new.room + length new.tokens ≡ old.room + length old.tokens
+    → AreIndexed new (with_text texts n text)
+issued old new texts n place text None h there drawn behind replaces room = issued_first old new texts n place text h there drawn behind replaces room
+issued old new texts n place text (Some past) h there drawn behind replaces room =
+    let f = h.found n past there in
+    issued_again old new texts n place text past f h there drawn behind (replaces f.place f.drawn) room
+
+-- a grant has a token that is found, or leaves room for one
+pub room_or_found : (tokens : TokensValue) (texts : Texts) (n : ℕ) (last : Option (List ℕ)) → AreIndexed tokens texts → nth texts n ≡ Some last → MatchOption last (0 < tokens.room) (IsFound tokens.tokens n)
+room_or_found tokens texts n None h there =
+    let more = sum_by-with_item weight (λ _. Some []) texts n None there in
+    let few = count_by-le-length is_some (with_text texts n []) in
+    omega (arith, h.few, h.room, more, few, length-with_item (λ _. Some []) texts n)
+room_or_found tokens texts n (Some text) h there = h.found n text there
+
+-- ---- a new place
+
+access_before : (place : ℕ) (row : GrantRow) (text : List ℕ) → All (IsDrawnBefore place) (secrets_of row) → row.access ≡ Some text → IsDrawnBefore place text
+access_before place row text all is =
+    let listed : secrets_of row ≡ row.continuation ∷ row.nonce ∷ (option_to_list (Some text) ++ option_to_list row.reference) =
+    ap (λ o. row.continuation ∷ row.nonce ∷ (option_to_list o ++ option_to_list row.reference)) is in
+    all_at (IsDrawnBefore place) (row.continuation ∷ row.nonce ∷ (option_to_list (Some text) ++ option_to_list row.reference)) 2 text (subst (All (IsDrawnBefore place)) listed all) refl
+
+row_at : {X : Type 0} (P : X → Type 0) (xs : List X) (n : ℕ) (x : X) → All P xs → nth xs n ≡ Some x → P x
+row_at P xs zero x all h = absurd (let e : None ≡ Some x = h in cc)
+row_at P xs (suc i) x all h = all_at P xs i x all h
+
+-- a new place lies behind those of the index
+pub behind_all : (tokens : TokensValue) (rows : List GrantRow) (place : ℕ) → AreIndexed tokens (accesses rows) → IsNewPlace place rows → All (λ t. t.place < place) tokens.tokens
+behind_all tokens rows place h new =
+    all_items (IsHeld (accesses rows)) (λ t. t.place < place) tokens.tokens
+    (λ t k.
+    let row = of_map (λ r. r.access) (nth rows t.grant) (Some k.text) (sym (nth-map (λ r. r.access) rows t.grant) ∙ k.there) in
+    access_before place row.0 k.text (row_at (λ r. All (IsDrawnBefore place) (secrets_of r)) rows t.grant row.0 new row.1) row.2 Access k.drawn.word t.place k.drawn.drawn k.drawn.small k.drawn.is) h.held
+
+-- ---- rows
+
+-- a change that leaves the access token and the items
+pub kept_changed : (tokens : TokensValue) (rows : List GrantRow) (f : GrantRow → GrantRow) (n : ℕ) → ((r : GrantRow) → (f r).access ≡ r.access) → ((r : GrantRow) → (f r).items ≡ r.items)
+    → IsKept tokens rows → IsKept tokens (with_item f rows n)
+kept_changed tokens rows f n access items h =
+    record {
+      indexed = subst (AreIndexed tokens) (sym (map-unchanged (λ r. r.access) f rows n access)) h.indexed;
+      readable = subst (λ xs. IsTrue (list_all are_readable xs)) (sym (map-unchanged (λ r. r.items) f rows n items)) h.readable;
+    }
+
+-- a change that draws the access token
+pub kept_issued : (old new : TokensValue) (rows : List GrantRow) (f : GrantRow → GrantRow) (n place : ℕ) (text : List ℕ) (row : GrantRow) → ((r : GrantRow) → (f r).access ≡ Some text) → ((r : GrantRow) → (f r).items ≡ r.items)
+    → IsKept old rows → nth rows n ≡ Some row → IsDrawnAt place text → IsNewPlace place rows → Replaces old new row.access (token place n) → new.room + length new.tokens ≡ old.room + length old.tokens
+    → IsKept new (with_item f rows n)
+kept_issued old new rows f n place text row access items h there drawn behind replaces room =
+    let texts = map-with_item (λ r. r.access) f (λ _. Some text) rows n access in
+    let at : nth (accesses rows) n ≡ Some row.access = nth-map (λ r. r.access) rows n ∙ ap (option_map (λ r. r.access)) there in
+    record {
+      indexed = subst (AreIndexed new) (sym texts)
+          (issued old new (accesses rows) n place text row.access h.indexed at drawn (behind_all old rows place h.indexed behind) replaces room);
+      readable = subst (λ xs. IsTrue (list_all are_readable xs)) (sym (map-unchanged (λ r. r.items) f rows n items)) h.readable;
+    }

@@ -1,11 +1,12 @@
 -- Items by number, where one is changed or one is added.
-use Rattle.std.proofs.Common.{◌≡◌, ◌≢◌, ℕ, zero, suc, ◌+◌, ◌-◌, ◌<◌, ◌≤◌, Bool, true, false, cond, List, [], ◌∷◌, ◌++◌, length, map, get_or, refl, sym, ap, subst, ◌∙◌, arith, add-zero}
+use Rattle.std.proofs.Common.{◌≡◌, ◌≢◌, ℕ, zero, suc, ◌+◌, ◌-◌, ◌<◌, ◌≤◌, Bool, true, false, cond, List, [], ◌∷◌, ◌++◌, length, map, get_or, refl, sym, ap, subst, ◌∙◌, arith, add-zero, IsTrue}
 use Rattle.std.specs.Prelude.{Some, None, ◌==◌, slice_get, sum_by}
 use Rattle.std.specs.List.{enumerate_from, position_from}
-use Rattle.std.specs.Option.{option_map}
+use Rattle.std.specs.Option.{option_map, is_some}
 use Rattle.std.specs.declared.option.Option.{Option}
 use Rattle.std.proofs.lemmas.Bool.Decides.{nat_tests}
 use Rattle.std.proofs.lemmas.List.Sums.{sum_by-cons}
+use Rattle.std.proofs.lemmas.Option.{slice_get-get_or}
 use Rattle.op_model.specs.History.{nth, number_of, changed_at, with_item}
 
 some_is : {X : Type 0} (x y : X) → Some x ≡ Some y → x ≡ y
@@ -187,3 +188,18 @@ number_of_only test xs zero x h e only = absurd (let f : None ≡ Some x = h in 
 number_of_only test xs (suc k) x h e only =
     let number : 1 + k ≡ suc k = omega arith in
     only_from test 1 k xs x h e (λ i y g t. let next = only (suc i) y g t in omega (arith, next)) ∙ ap (λ m. Some m) number
+
+-- ---- an item that is there
+
+place_of_some : {X : Type 0} (xs : List X) (i : ℕ) → IsTrue (is_some (slice_get xs i)) → i < length xs
+place_of_some [] i there = absurd (let e : false ≡ true = there in cc)
+place_of_some (x ∷ xs) zero there = omega arith
+place_of_some (x ∷ xs) (suc i) there = let rest = place_of_some xs i there in omega (arith, rest)
+
+-- the item at an index is the one of the number
+pub nth_at : {X : Type 0} (xs : List X) (n : ℕ) (x : X) → IsTrue (is_some (nth xs n)) → x ≡ get_or xs (n - 1) x → nth xs n ≡ Some x
+nth_at xs zero x there h = absurd (let e : false ≡ true = there in cc)
+nth_at xs (suc i) x there h =
+    let same : suc i - 1 ≡ i = omega arith in
+    let at : x ≡ get_or xs i x = subst (λ k. x ≡ get_or xs k x) same h in
+    slice_get-get_or xs i x (place_of_some xs i there) ∙ ap (λ y. Some y) (sym at)
