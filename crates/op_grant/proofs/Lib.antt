@@ -1,3 +1,4 @@
+pub mod Changes
 pub mod Indexing
 pub mod LimitFacts
 pub mod Numbered
