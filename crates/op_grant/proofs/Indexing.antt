@@ -6,7 +6,8 @@ use Rattle.std.specs.Option.{option_map, is_some, option_to_list}
 use Rattle.std.specs.declared.option.Option.{Option}
 use Rattle.std.proofs.lemmas.Bool.Decides.{nat_tests}
 use Rattle.std.proofs.lemmas.List.Elements.{All-append, All-filter, filter_passes}
-use Rattle.std.proofs.lemmas.List.Sums.{count_by-le-length}
+use Rattle.std.proofs.lemmas.List.{length-map, map-append}
+use Rattle.std.proofs.lemmas.List.Sums.{count_by-le-length, sum_by-append}
 use Rattle.op_names.specs.Secrets.{secret_text, IsDrawn}
 use Rattle.op_names.specs.declared.Letter.TheVariants.{Access}
 use Rattle.op_names.proofs.SecretTexts.{same_place}
@@ -220,3 +221,81 @@ kept_issued old new rows f n place text row access items h there drawn behind re
           (issued old new (accesses rows) n place text row.access h.indexed at drawn (behind_all old rows place h.indexed behind) replaces room);
       readable = subst (λ xs. IsTrue (list_all are_readable xs)) (sym (map-unchanged (λ r. r.items) f rows n items)) h.readable;
     }
+
+-- ---- one more grant
+
+-- the other texts, with one more
+held_append : (texts : Texts) (o : Option (List ℕ)) (t : Token) → IsHeld texts t → IsHeld (texts ++ o ∷ []) t
+held_append texts o t h =
+    record { text = h.text; there = nth-append texts (o ∷ []) t.grant (Some h.text) h.there; drawn = h.drawn }
+
+asked_pending : (old new : TokensValue) (texts : Texts) → AreIndexed old texts → new.tokens ≡ old.tokens → length texts + 1 ≤ new.room + length new.tokens → AreIndexed new (texts ++ None ∷ [])
+asked_pending old new texts h is room =
+    record {
+      found = λ n s e. subst (λ ts. IsFound ts n s) (sym is)
+          (nth_either (λ m o. o ≡ Some s → IsFound old.tokens m s) texts None (Some s) n (λ m f g. h.found m s f) (λ g. absurd (cc g)) e refl);
+      held = subst (All (IsHeld (texts ++ None ∷ []))) (sym is) (all_items (IsHeld texts) (IsHeld (texts ++ None ∷ [])) old.tokens (held_append texts None) h.held);
+      few = omega (arith, ap length is, sum_by-append weight texts (None ∷ []), h.few);
+      room = omega (arith, length-append texts (None ∷ []), room);
+    }
+
+asked_issued : (old new : TokensValue) (texts : Texts) (place : ℕ) (text : List ℕ) → AreIndexed old texts → IsDrawnAt place text → All (λ t. t.place < place) old.tokens
+    → new.tokens ≡ old.tokens ++ token place (length texts + 1) ∷ [] → length texts + 1 ≤ new.room + length new.tokens → AreIndexed new (texts ++ Some text ∷ [])
+asked_issued old new texts place text h drawn behind is room =
+    let n = length texts + 1 in
+    let tokens = old.tokens ++ token place n ∷ [] in
+    let last = grant_at-last old.tokens (token place n) behind in
+    let mine : IsFound tokens n text = record { place = place; drawn = drawn; at = last } in
+    let here : IsHeld (texts ++ Some text ∷ []) (token place n) = record { text = text; there = nth-last texts (Some text) n refl; drawn = drawn } in
+    record {
+      found = λ m s e. subst (λ ts. IsFound ts m s) (sym is)
+          (nth_either (λ k o. o ≡ Some s → IsFound tokens k s) texts (Some text) (Some s) m
+          (λ k f g. let other = h.found k s f in record { place = other.place; drawn = other.drawn; at = grant_at-append old.tokens (token place n) other.place k other.at })
+          (λ g. subst (IsFound tokens n) (some_is text s g) mine) e refl);
+      held = subst (All (IsHeld (texts ++ Some text ∷ []))) (sym is)
+          (All-append (IsHeld (texts ++ Some text ∷ [])) old.tokens (token place n ∷ [])
+          (all_items (IsHeld texts) (IsHeld (texts ++ Some text ∷ [])) old.tokens (held_append texts (Some text)) h.held)
+          (one_item (IsHeld (texts ++ Some text ∷ [])) (token place n) here));
+      few = omega (arith, ap length is, length-append old.tokens (token place n ∷ []), sum_by-append weight texts (Some text ∷ []), h.few);
+      room = omega (arith, length-append texts (Some text ∷ []), room);
+    }
+
+and_true : (p q : Bool) → p ≡ true → q ≡ true → (p && q) ≡ true
+and_true true q h k = k
+and_true false q h k = absurd (let e : false ≡ true = h in cc)
+
+both_of : (p q : Bool) → (p && q) ≡ true → (p ≡ true) × (q ≡ true)
+both_of true q h = (refl, h)
+both_of false q h = absurd (let e : false ≡ true = h in cc)
+
+readable_append : (rows : List GrantRow) (row : GrantRow) → IsTrue (list_all are_readable (asked_items rows)) → IsTrue (are_readable row.items) → IsTrue (list_all are_readable (asked_items (rows ++ row ∷ [])))
+readable_append [] row h r = and_true (are_readable row.items) true r refl
+readable_append (x ∷ xs) row h r =
+    let parts = both_of (are_readable x.items) (list_all are_readable (asked_items xs)) h in
+    and_true (are_readable x.items) (list_all are_readable (asked_items (xs ++ row ∷ []))) parts.0 (readable_append xs row parts.1 r)
+
+pub kept_pending : (old new : TokensValue) (rows : List GrantRow) (row : GrantRow) → IsKept old rows → row.access ≡ None → IsTrue (are_readable row.items)
+    → new.tokens ≡ old.tokens → length rows + 1 ≤ new.room + length new.tokens → IsKept new (rows ++ row ∷ [])
+kept_pending old new rows row h none items is room =
+    let texts : accesses (rows ++ row ∷ []) ≡ accesses rows ++ None ∷ [] = map-append (λ r. r.access) rows (row ∷ []) ∙ ap (λ o. accesses rows ++ o ∷ []) none in
+    record {
+      indexed = subst (AreIndexed new) (sym texts) (asked_pending old new (accesses rows) h.indexed is (omega (arith, room, length-map rows (λ r. r.access))));
+      readable = readable_append rows row h.readable items;
+    }
+
+pub kept_immediate : (old new : TokensValue) (rows : List GrantRow) (row : GrantRow) (place : ℕ) (text : List ℕ) → IsKept old rows → row.access ≡ Some text → IsDrawnAt place text → IsTrue (are_readable row.items)
+    → IsNewPlace place rows → new.tokens ≡ old.tokens ++ token place (length rows + 1) ∷ [] → length rows + 1 ≤ new.room + length new.tokens → IsKept new (rows ++ row ∷ [])
+kept_immediate old new rows row place text h some drawn items behind is room =
+    let size : length (accesses rows) ≡ length rows = length-map rows (λ r. r.access) in
+    let texts : accesses (rows ++ row ∷ []) ≡ accesses rows ++ Some text ∷ [] = map-append (λ r. r.access) rows (row ∷ []) ∙ ap (λ o. accesses rows ++ o ∷ []) some in
+    record {
+      indexed = subst (AreIndexed new) (sym texts)
+          (asked_issued old new (accesses rows) place text h.indexed drawn (behind_all old rows place h.indexed behind)
+          (is ∙ ap (λ k. old.tokens ++ token place (k + 1) ∷ []) (sym size)) (omega (arith, room, size)));
+      readable = readable_append rows row h.readable items;
+    }
+
+-- there are at most as many tokens as grants
+pub fewer_tokens : (tokens : TokensValue) (rows : List GrantRow) → IsKept tokens rows → length tokens.tokens ≤ length rows
+fewer_tokens tokens rows h =
+    omega (arith, h.indexed.few, count_by-le-length is_some (accesses rows), length-map rows (λ r. r.access))

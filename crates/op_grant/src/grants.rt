@@ -1,6 +1,6 @@
 //! Grants by number, and what was spent under them.
 
-ghost use Rattle.std.specs.Prelude.{◌≡◌, ◌≢◌, [], length, IsTrue, OnOk, OnErr, IfOk, IfErr, Some, None};
+ghost use Rattle.std.specs.Prelude.{◌≡◌, ◌≢◌, ◌≤◌, [], length, IsTrue, OnOk, OnErr, IfOk, IfErr, Some, None};
 ghost use Rattle.std.specs.Option.{option_copied};
 ghost use Rattle.op_model.specs.History.{nth};
 ghost use Rattle.op_grant.specs.Value.{no_grants, has_row, with_grant, with_row, spent_in, spent_more, spent_less};
@@ -29,7 +29,7 @@ use std::marker::Model;
 pub struct Grants {
     rows: Vec<GrantRow>,
     tokens: Tokens,
-    spent: BTreeMap<(u64, u64), u64>,
+    counters: BTreeMap<(u64, u64), u64>,
 }
 
 impl Model for Grants {
@@ -38,7 +38,7 @@ impl Model for Grants {
 
     ghost Value = { GrantsValue };
 
-    ghost view = { λ a. record { rows = a.rows.items; spent = a.spent.entries } };
+    ghost view = { λ a. record { rows = a.rows.items; spent = a.counters.entries } };
 
     ghost invariant = { λ a. IsKept a.tokens a.rows.items };
 }
@@ -51,7 +51,7 @@ impl Grants {
         Grants {
             rows: Vec::new(alloc),
             tokens: Tokens::new(alloc),
-            spent: BTreeMap::new(alloc),
+            counters: BTreeMap::new(alloc),
         }
     }
 
@@ -219,6 +219,80 @@ impl Grants {
             Some(n)
         } else {
             None
+        }
+    }
+
+    /// What was spent under grant `n` in interval `j` of its limits, in smallest units of its cap's asset.
+    pub fn spent(&self, n: u64, j: u64) -> u64
+        requires { IsTrue (has_row self.now n) }
+        ensures { result ≡ spent_in self.now n j }
+    {
+        self.spent_in(n, j)
+    }
+
+    fn spent_in(&self, n: u64, j: u64) -> u64
+        ensures { result ≡ spent_in self.now n j }
+    {
+        self.counters.get(&(n, j)).copied().unwrap_or(0)
+    }
+
+    /// The interval in which a payment to a receiver may spend at a moment under grant `n`. Looked at in this order:
+    /// `LimitReceiver`, `LimitAsset`, `OutsideInterval`, `OverLimit`.
+    pub fn may_spend(
+        &self,
+        n: u64,
+        t: Moment,
+        receiver: u64,
+        debit: Sum,
+        receive: Sum,
+    ) -> Result<u64, GrantFault>
+        requires { IsTrue (has_row self.now n) }
+        ensures { result ≡ at_row (may_spend_answer self.now n t receiver debit receive) self.now n }
+    {
+        let row = &self.rows[n as usize - 1];
+        let items = row.items.as_slice();
+        if limits::is_other_receiver(items, receiver) {
+            return Err(GrantFault::LimitReceiver);
+        }
+        let cap = limits::cap_of(items);
+        if limits::is_other_asset(cap, debit, receive) {
+            return Err(GrantFault::LimitAsset);
+        }
+        let Some(j) = limits::interval_at(items, t) else {
+            return Err(GrantFault::OutsideInterval);
+        };
+        let spent = self.spent_in(n, j);
+        if limits::passes_cap(cap, spent, debit, receive) {
+            return Err(GrantFault::OverLimit { spent });
+        }
+        Ok(j)
+    }
+
+    /// Counts a value as spent under grant `n` in interval `j`. Without a cap nothing is counted.
+    pub fn spend(&mut self, n: u64, j: u64, value: u64) -> Result<(), AllocError>
+        requires there { IsTrue (has_row self.old n) }
+        requires covered { IsTrue (covers_spending self.old n j value) }
+        ensures ok { OnOk result (self.new ≡ spent_more self.old n j value) }
+        ensures err { OnErr result (self.new ≡ self.old) }
+    {
+        let row = &self.rows[n as usize - 1];
+        match limits::cap_of(row.items.as_slice()) {
+            Some(_) => {}
+            None => return Ok(()),
+        }
+        let spent = self.spent_in(n, j);
+        self.counters.insert((n, j), spent + value)?;
+        Ok(())
+    }
+
+    /// Gives back a value that was counted as spent under grant `n` in interval `j`. Takes no memory.
+    pub fn unspend(&mut self, n: u64, j: u64, value: u64)
+        requires there { IsTrue (has_row self.old n) }
+        requires covered { value ≤ spent_in self.old n j }
+        ensures { self.new ≡ spent_less self.old n j value }
+    {
+        if let Some(spent) = self.counters.get_mut(&(n, j)) {
+            *spent -= value;
         }
     }
 }

@@ -1,7 +1,7 @@
 //! The limits of what a client asks for.
 
-ghost use Rattle.std.specs.Prelude.{◌≡◌, IsTrue};
-ghost use Rattle.std.specs.Option.{option_copied};
+ghost use Rattle.std.specs.Prelude.{◌≡◌, false, IsTrue};
+ghost use Rattle.std.specs.Option.{option_copied, option_map_or};
 ghost use Rattle.op_model.specs.Grants.{limits_of, cap_of, repeats, interval_at, inside};
 ghost use Rattle.op_grant.specs.Limits.{counted, is_other_receiver, is_other_asset, passes_cap, are_readable, is_readable};
 ghost use Rattle.op_time.specs.Texts.{interval_of};
@@ -42,22 +42,34 @@ pub(crate) fn is_other_receiver(items: &[Item], receiver: u64) -> bool
     }
 }
 
-/// What a cap counts: what is debited, or what is received.
-pub(crate) fn counted(cap: &Cap, debit: Sum, receive: Sum) -> Sum
+// What a cap counts: what is debited, or what is received.
+fn counted(cap: &Cap, debit: Sum, receive: Sum) -> Sum
     ensures { result ≡ counted debit receive cap.now }
 {
     if cap.debit { debit } else { receive }
 }
 
-/// Whether a cap is in another asset than what it counts.
-pub(crate) fn is_other_asset(cap: &Cap, debit: Sum, receive: Sum) -> bool
-    ensures { result ≡ is_other_asset debit receive cap.now }
+/// Whether there is a cap, in another asset than what it counts.
+pub(crate) fn is_other_asset(cap: Option<Cap>, debit: Sum, receive: Sum) -> bool
+    ensures { result ≡ option_map_or (is_other_asset debit receive) cap false }
 {
-    cap.sum.asset != counted(cap, debit, receive).asset
+    match cap {
+        Some(cap) => cap.sum.asset != counted(&cap, debit, receive).asset,
+        None => false,
+    }
 }
 
-/// Whether a value would pass a cap, in smallest units of its asset, where so much was spent before.
-pub(crate) fn passes_cap(cap: &Cap, spent: u64, value: u64) -> bool
+/// Whether there is a cap, and what it counts would pass it, where so much was spent before.
+pub(crate) fn passes_cap(cap: Option<Cap>, spent: u64, debit: Sum, receive: Sum) -> bool
+    ensures { result ≡ option_map_or (λ cap. passes_cap spent (counted debit receive cap).value cap) cap false }
+{
+    match cap {
+        Some(cap) => is_passed(&cap, spent, counted(&cap, debit, receive).value),
+        None => false,
+    }
+}
+
+fn is_passed(cap: &Cap, spent: u64, value: u64) -> bool
     ensures { result ≡ passes_cap spent value cap.now }
 {
     let top = cap.sum.value;
