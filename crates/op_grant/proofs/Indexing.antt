@@ -299,3 +299,14 @@ kept_immediate old new rows row place text h some drawn items behind is room =
 pub fewer_tokens : (tokens : TokensValue) (rows : List GrantRow) → IsKept tokens rows → length tokens.tokens ≤ length rows
 fewer_tokens tokens rows h =
     omega (arith, h.indexed.few, count_by-le-length is_some (accesses rows), length-map rows (λ r. r.access))
+
+readable_at : (rows : List GrantRow) (i : ℕ) (row : GrantRow) → IsTrue (list_all are_readable (asked_items rows)) → slice_get rows i ≡ Some row → IsTrue (are_readable row.items)
+readable_at [] i row h there = absurd (let e : None ≡ Some row = there in cc)
+readable_at (x ∷ xs) zero row h there =
+    let same : x ≡ row = cc in
+    subst (λ r. IsTrue (are_readable r.items)) same (both_of (are_readable x.items) (list_all are_readable (asked_items xs)) h).0
+readable_at (x ∷ xs) (suc i) row h there = readable_at xs i row (both_of (are_readable x.items) (list_all are_readable (asked_items xs)) h).1 there
+
+pub readable_row : (rows : List GrantRow) (n : ℕ) (row : GrantRow) → IsTrue (list_all are_readable (asked_items rows)) → nth rows n ≡ Some row → IsTrue (are_readable row.items)
+readable_row rows zero row h there = absurd (let e : None ≡ Some row = there in cc)
+readable_row rows (suc i) row h there = readable_at rows i row h there

@@ -3,4 +3,5 @@ pub mod Finding
 pub mod Indexing
 pub mod LimitFacts
 pub mod Numbered
+pub mod Spending
 pub mod TokenLists

@@ -3,7 +3,7 @@ use Rattle.std.specs.Prelude.{ℕ, ◌+◌, ◌-◌, Bool, List, [], ◌∷◌, 
 use Rattle.std.specs.Option.{option_map_or, option_and_then, is_some}
 use Rattle.std.specs.Ordering.{ordering_then, nat_cmp}
 use Rattle.std.specs.declared.cmp.Ordering.{Ordering}
-use Rattle.std.specs.Map.{lookup}
+use Rattle.std.specs.Map.{lookup, set_value}
 use Rattle.std.specs.BTreeMap.{insert_entry, is_at}
 use Rattle.std.specs.declared.option.Option.{Option}
 use Rattle.op_model.specs.History.{nth, with_item}
@@ -56,4 +56,4 @@ spent_more value n j v = option_map_or (λ cap. with_spent value n j (spent_in v
 
 -- with v of it given back
 abbrev pub spent_less : GrantsValue → (n j v : ℕ) → GrantsValue
-spent_less value n j v = option_map_or (λ spent. with_spent value n j (spent - v)) (counter_of value n j) value
+spent_less value n j v = record value { spent = set_value (is_at (by_grant (n, j))) value.spent (spent_in value n j - v) }
