@@ -1,7 +1,9 @@
 -- Whether a payment may spend.
-use Rattle.std.proofs.Common.{◌≡◌, ℕ, Bool, true, false, List, refl, sym, ap, subst, ◌∙◌, Ok, Err}
-use Rattle.std.specs.Prelude.{Some, None, if◌then◌else◌}
+use Rattle.std.proofs.Common.{◌≡◌, ℕ, ◌-◌, Bool, true, false, cond, List, [], ◌∷◌, refl, sym, ap, subst, ◌∙◌, Ok, Err}
+use Rattle.std.specs.Prelude.{Some, None, if◌then◌else◌, unwrap_or}
 use Rattle.std.specs.Option.{option_map_or}
+use Rattle.std.specs.Map.{lookup, set_value}
+use Rattle.std.specs.BTreeMap.{is_at}
 use Rattle.std.specs.declared.option.Option.{Option}
 use Rattle.std.specs.declared.result.Result.{Result}
 use Rattle.op_model.specs.Grants.{cap_of, interval_at}
@@ -9,10 +11,11 @@ use Rattle.op_model.specs.declared.grant.Cap.{Cap}
 use Rattle.op_model.specs.declared.grant.Item.{Item}
 use Rattle.op_model.specs.declared.grant.Sum.{Sum}
 use Rattle.op_model.specs.declared.row.GrantRow.{GrantRow}
-use Rattle.op_grant.specs.Value.{GrantsValue, spent_in}
+use Rattle.op_grant.specs.Value.{GrantsValue, by_grant, spent_in, spent_less}
 use Rattle.op_grant.specs.Limits.{counted, is_other_receiver, is_other_asset, passes_cap, within_cap, may_spend_answer}
 use Rattle.op_grant.specs.declared.fault.GrantFault.{GrantFault}
 use Rattle.op_grant.specs.declared.fault.GrantFault.TheVariants as faults
+use Rattle.op_grant.proofs.Changes.{grants_of}
 
 abbrev Answer : Type 0
 Answer = Result ℕ GrantFault
@@ -36,3 +39,27 @@ within_is value n j spent debit receive items cap b is caps passes =
     let by_cap : Bool → Answer = λ c. if c then Err (faults.OverLimit spent) else Ok j in
     ap by_cap (passes ∙ ap (λ c. option_map_or (λ k. passes_cap spent (counted debit receive k).value k) c false) caps)
     ∙ ap (λ s. if option_map_or (λ k. passes_cap s (counted debit receive k).value k) (cap_of items) false then Err (faults.OverLimit s) else Ok j) is
+
+-- ---- giving back
+
+abbrev pub Counters : Type 0
+Counters = List ((ℕ × ℕ) × ℕ)
+
+pub given_back_is : (value : GrantsValue) (rows : List GrantRow) (counters after : Counters) (n j v s : ℕ) → grants_of rows counters ≡ value
+    → Some s ≡ lookup (is_at (by_grant (n, j))) counters → after ≡ set_value (is_at (by_grant (n, j))) counters (s - v) → grants_of rows after ≡ spent_less value n j v
+given_back_is value rows counters after n j v s view found is =
+    ap (grants_of rows) (is ∙ ap (λ o. set_value (is_at (by_grant (n, j))) counters (unwrap_or o 0 - v)) found) ∙ ap (λ w. spent_less w n j v) view
+
+unset_step : (b : Bool) (e : (ℕ × ℕ) × ℕ) (o : Option ℕ) (ys zs es : Counters) → cond b (Some e.1) o ≡ None → (o ≡ None → zs ≡ es) → cond b ys (e ∷ zs) ≡ e ∷ es
+unset_step true e o ys zs es h k = absurd (let f : Some e.1 ≡ None = h in cc)
+unset_step false e o ys zs es h k = ap (λ xs. e ∷ xs) (k h)
+
+set_value_none : (test : ℕ × ℕ → Bool) (es : Counters) (w : ℕ) → lookup test es ≡ None → set_value test es w ≡ es
+set_value_none test [] w h = refl
+set_value_none test (e ∷ es) w h =
+    unset_step (test e.0) e (lookup test es) ((e.0, w) ∷ es) (set_value test es w) es h (set_value_none test es w)
+
+pub nothing_given_back : (value : GrantsValue) (rows : List GrantRow) (counters after : Counters) (n j v : ℕ) → grants_of rows counters ≡ value
+    → None ≡ lookup (is_at (by_grant (n, j))) counters → after ≡ counters → grants_of rows after ≡ spent_less value n j v
+nothing_given_back value rows counters after n j v view found is =
+    ap (grants_of rows) (is ∙ sym (set_value_none (is_at (by_grant (n, j))) counters (spent_in (grants_of rows counters) n j - v) (sym found))) ∙ ap (λ w. spent_less w n j v) view
