@@ -227,12 +227,6 @@ impl Grants {
         requires { IsTrue (has_row self.now n) }
         ensures { result ≡ spent_in self.now n j }
     {
-        self.spent_in(n, j)
-    }
-
-    fn spent_in(&self, n: u64, j: u64) -> u64
-        ensures { result ≡ spent_in self.now n j }
-    {
         self.counters.get(&(n, j)).copied().unwrap_or(0)
     }
 
@@ -261,7 +255,7 @@ impl Grants {
         let Some(j) = limits::interval_at(items, t) else {
             return Err(GrantFault::OutsideInterval);
         };
-        let spent = self.spent_in(n, j);
+        let spent = self.spent(n, j);
         if limits::passes_cap(cap, spent, debit, receive) {
             return Err(GrantFault::OverLimit { spent });
         }
@@ -280,7 +274,7 @@ impl Grants {
             Some(_) => {}
             None => return Ok(()),
         }
-        let spent = self.spent_in(n, j);
+        let spent = self.spent(n, j);
         self.counters.insert((n, j), spent + value)?;
         Ok(())
     }

@@ -28,9 +28,9 @@ pub returns-then-passes_cap : goal.returns-then-passes_cap
 returns-then-passes_cap c =
     let row = c.index-row.result.now in
     let value = c.args.self.now in
-    answered value c.self.inside.rows.items c.self.inside.counters.entries c.args.n row (may_spend_answer value c.args.n c.args.t c.args.receiver c.args.debit c.args.receive) (Err (OverLimit c.spent_in-spent.result))
+    answered value c.self.inside.rows.items c.self.inside.counters.entries c.args.n row (may_spend_answer value c.args.n c.args.t c.args.receiver c.args.debit c.args.receive) (Err (OverLimit c.spent-spent.result))
     (record { view = c.self.view_is; there = c.requires; at = c.index-row.ensures })
-    (within_is value c.args.n c.in-Some.j c.spent_in-spent.result c.args.debit c.args.receive c.as_slice-items.result.now c.cap_of-cap.result _ c.spent_in-spent.ensures c.cap_of-cap.ensures c.if-passes_cap.ensures
+    (within_is value c.args.n c.in-Some.j c.spent-spent.result c.args.debit c.args.receive c.as_slice-items.result.now c.cap_of-cap.result _ c.spent-spent.ensures c.cap_of-cap.ensures c.if-passes_cap.ensures
     ∙ left_is value c.args.n c.args.t c.args.receiver c.args.debit c.args.receive row c.as_slice-items.result.now c.cap_of-cap.result (Some c.in-Some.j)
     c.as_slice-items.ensures c.if-is_other_receiver.ensures c.cap_of-cap.ensures c.if-is_other_asset.ensures c.in-Some.ensures)
 
@@ -40,6 +40,6 @@ returns c =
     let value = c.args.self.now in
     answered value c.self.inside.rows.items c.self.inside.counters.entries c.args.n row (may_spend_answer value c.args.n c.args.t c.args.receiver c.args.debit c.args.receive) (Ok c.in-Some.j)
     (record { view = c.self.view_is; there = c.requires; at = c.index-row.ensures })
-    (within_is value c.args.n c.in-Some.j c.spent_in-spent.result c.args.debit c.args.receive c.as_slice-items.result.now c.cap_of-cap.result _ c.spent_in-spent.ensures c.cap_of-cap.ensures c.if-passes_cap.ensures
+    (within_is value c.args.n c.in-Some.j c.spent-spent.result c.args.debit c.args.receive c.as_slice-items.result.now c.cap_of-cap.result _ c.spent-spent.ensures c.cap_of-cap.ensures c.if-passes_cap.ensures
     ∙ left_is value c.args.n c.args.t c.args.receiver c.args.debit c.args.receive row c.as_slice-items.result.now c.cap_of-cap.result (Some c.in-Some.j)
     c.as_slice-items.ensures c.if-is_other_receiver.ensures c.cap_of-cap.ensures c.if-is_other_asset.ensures c.in-Some.ensures)
