@@ -1,4 +1,5 @@
 pub mod Changes
+pub mod Counters
 pub mod Finding
 pub mod Indexing
 pub mod LimitFacts
