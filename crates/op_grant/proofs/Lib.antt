@@ -5,4 +5,5 @@ pub mod Indexing
 pub mod LimitFacts
 pub mod Numbered
 pub mod Spending
+pub mod SpendingLaw
 pub mod TokenLists

@@ -54,7 +54,7 @@ unset_step : (b : Bool) (e : (ℕ × ℕ) × ℕ) (o : Option ℕ) (ys zs es : C
 unset_step true e o ys zs es h k = absurd (let f : Some e.1 ≡ None = h in cc)
 unset_step false e o ys zs es h k = ap (λ xs. e ∷ xs) (k h)
 
-set_value_none : (test : ℕ × ℕ → Bool) (es : Counters) (w : ℕ) → lookup test es ≡ None → set_value test es w ≡ es
+pub set_value_none : (test : ℕ × ℕ → Bool) (es : Counters) (w : ℕ) → lookup test es ≡ None → set_value test es w ≡ es
 set_value_none test [] w h = refl
 set_value_none test (e ∷ es) w h =
     unset_step (test e.0) e (lookup test es) ((e.0, w) ∷ es) (set_value test es w) es h (set_value_none test es w)
