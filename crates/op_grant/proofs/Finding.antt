@@ -47,7 +47,7 @@ found_live tokens rows t token n row h there live =
     let access : row.access ≡ Some token = current_access row token (live_current t row token (live_is t row token live)) in
     h.indexed.found n token (nth-map (λ r. r.access) rows n ∙ ap (option_map (λ r. r.access)) there ∙ ap (λ o. Some o) access)
 
-false_where : (b : Bool) → (b ≡ true → ⊥) → b ≡ false
+pub false_where : (b : Bool) → (b ≡ true → ⊥) → b ≡ false
 false_where true h = absurd (h refl)
 false_where false h = refl
 

@@ -28,7 +28,7 @@ some_is x y h = cc
 pub one_place : (p q : ℕ) (text : List ℕ) → IsDrawnAt p text → IsDrawnAt q text → p ≡ q
 one_place p q text a b = same_place text Access Access a.word b.word p q a.drawn b.drawn a.small b.small a.is b.is
 
-number_cases : (m n : ℕ) → (m ≡ n) ⊎ (m ≢ n)
+pub number_cases : (m n : ℕ) → (m ≡ n) ⊎ (m ≢ n)
 number_cases zero zero = inl refl
 number_cases zero (suc n) = inr (λ e. absurd (omega (arith, e)))
 number_cases (suc m) zero = inr (λ e. absurd (omega (arith, e)))
@@ -180,13 +180,13 @@ room_or_found tokens texts n (Some text) h there = h.found n text there
 
 -- ---- a new place
 
-access_before : (place : ℕ) (row : GrantRow) (text : List ℕ) → All (IsDrawnBefore place) (secrets_of row) → row.access ≡ Some text → IsDrawnBefore place text
+pub access_before : (place : ℕ) (row : GrantRow) (text : List ℕ) → All (IsDrawnBefore place) (secrets_of row) → row.access ≡ Some text → IsDrawnBefore place text
 access_before place row text all is =
     let listed : secrets_of row ≡ row.continuation ∷ row.nonce ∷ (option_to_list (Some text) ++ option_to_list row.reference) =
     ap (λ o. row.continuation ∷ row.nonce ∷ (option_to_list o ++ option_to_list row.reference)) is in
     all_at (IsDrawnBefore place) (row.continuation ∷ row.nonce ∷ (option_to_list (Some text) ++ option_to_list row.reference)) 2 text (subst (All (IsDrawnBefore place)) listed all) refl
 
-row_at : {X : Type 0} (P : X → Type 0) (xs : List X) (n : ℕ) (x : X) → All P xs → nth xs n ≡ Some x → P x
+pub row_at : {X : Type 0} (P : X → Type 0) (xs : List X) (n : ℕ) (x : X) → All P xs → nth xs n ≡ Some x → P x
 row_at P xs zero x all h = absurd (let e : None ≡ Some x = h in cc)
 row_at P xs (suc i) x all h = all_at P xs i x all h
 

@@ -4,6 +4,7 @@ pub mod Finding
 pub mod Indexing
 pub mod LimitFacts
 pub mod Numbered
+pub mod SecretLaw
 pub mod Spending
 pub mod SpendingLaw
 pub mod TokenLists

@@ -24,7 +24,7 @@ use Rattle.op_grant.proofs.Numbered.{nth-with_item, nth-append}
 
 -- ---- what no call changes
 
-rows_stay : (o : Option Cap) (value : GrantsValue) (n j v : ℕ) → (option_map_or (λ cap. with_spent value n j v) o value).rows ≡ value.rows
+pub rows_stay : (o : Option Cap) (value : GrantsValue) (n j v : ℕ) → (option_map_or (λ cap. with_spent value n j v) o value).rows ≡ value.rows
 rows_stay None value n j v = refl
 rows_stay (Some cap) value n j v = refl
 
@@ -32,7 +32,7 @@ there_mapped : {X Y : Type 0} (f : X → Y) (o : Option X) → is_some o ≡ tru
 there_mapped f None h = h
 there_mapped f (Some x) h = refl
 
-there_of : {X : Type 0} (o : Option X) → is_some o ≡ true → (x : X) × (o ≡ Some x)
+pub there_of : {X : Type 0} (o : Option X) → is_some o ≡ true → (x : X) × (o ≡ Some x)
 there_of None h = absurd (let e : false ≡ true = h in cc)
 there_of (Some x) h = (x, refl)
 
