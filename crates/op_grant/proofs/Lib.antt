@@ -7,4 +7,5 @@ pub mod Numbered
 pub mod SecretLaw
 pub mod Spending
 pub mod SpendingLaw
+pub mod TokenLaw
 pub mod TokenLists
