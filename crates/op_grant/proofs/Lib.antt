@@ -9,3 +9,4 @@ pub mod Spending
 pub mod SpendingLaw
 pub mod TokenLaw
 pub mod TokenLists
+mod Worked

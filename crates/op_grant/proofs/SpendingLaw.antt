@@ -1,6 +1,6 @@
 -- What was spent, behind a list of calls.
 use Rattle.std.proofs.Common.{◌≡◌, ℕ, suc, zero, ◌+◌, ◌-◌, ◌<◌, ◌≤◌, Bool, true, false, cond, List, [], ◌∷◌, ◌++◌, refl, sym, ap, subst, ◌∙◌, arith, tests, IsTrue, Ok, sum_by}
-use Rattle.std.specs.Prelude.{Some, None, ◌==◌, ◌&&◌, not, nat_lt, is_some, unwrap_or}
+use Rattle.std.specs.Prelude.{Some, None, ◌==◌, ◌&&◌, not, nat_lt, is_some, unwrap_or, MatchOption}
 use Rattle.std.specs.Option.{option_map, option_map_or, option_and_then}
 use Rattle.std.specs.Map.{lookup, set_value}
 use Rattle.std.specs.BTreeMap.{is_at, insert_entry}
@@ -16,7 +16,7 @@ use Rattle.op_grant.specs.Limits.{covers_spending, passes_cap}
 use Rattle.op_grant.specs.Rows.{proceeded_row}
 use Rattle.op_grant.specs.declared.fault.Proceeded.{Proceeded}
 use Rattle.op_grant.specs.declared.fault.Proceeded.TheVariants as answers
-use Rattle.op_grant.specs.Runs.{Call, CanCall, AreCalls, after_call, after_calls, spent_by, given_back_by, IsSpentSum}
+use Rattle.op_grant.specs.Runs.{Call, CanCall, AreCalls, after_call, after_calls, spent_by, given_back_by, IsSpentSum, SpendingIsSum}
 use Rattle.op_grant.specs.Runs.Call.{Requested, Decided, Continued, Cancelled, Rotated, Revoked, Spent, GivenBack}
 use Rattle.op_grant.proofs.Counters.{Key, Counters, tested_key, own_key, lookup-insert_entry, lookup-set_value, lookup-set_other}
 use Rattle.op_grant.proofs.Spending.{set_value_none}
@@ -219,7 +219,47 @@ sums_from value (call ∷ calls) n j cap can end within =
     let rest = sums_from (after_call value call) calls n j cap can.1 end (omega (arith, step, below)) in
     (omega (arith, step, rest.0, sum_by-cons (given_back_by n j) call calls, sum_by-cons (spent_by n j) call calls), rest.1)
 
-pub spent_sum : (calls : List Call) (n j : ℕ) (cap : Cap) → AreCalls no_grants calls → cap_in (after_calls no_grants calls) n ≡ Some cap → IsSpentSum (after_calls no_grants calls) calls n j cap
+spent_sum : (calls : List Call) (n j : ℕ) (cap : Cap) → AreCalls no_grants calls → cap_in (after_calls no_grants calls) n ≡ Some cap → IsSpentSum (after_calls no_grants calls) calls n j cap
 spent_sum calls n j cap can end =
     let from = sums_from no_grants calls n j cap can end (omega arith) in
     record { sum = omega (arith, from.0); within = from.1 }
+
+-- ---- without a cap
+
+uncapped_step : (o : Option Cap) (value : GrantsValue) (m k n j v : ℕ) → (m ≡ n → o ≡ None) → spent_in value n j ≡ 0 → spent_in (option_map_or (λ c. with_spent value m k (spent_in value m k + v)) o value) n j ≡ 0
+uncapped_step None value m k n j v h zero_before = zero_before
+uncapped_step (Some c) value m k n j v h zero_before =
+    let elsewhere : ((m == n) && (k == j)) ≡ false = other ((m == n) && (k == j)) refl in
+    let same = counted_more value m k n j v ∙ ap (λ b. spent_in value n j + cond b v 0) elsewhere in
+    omega (arith, same, zero_before)
+  where
+    other : (b : Bool) → ((m == n) && (k == j)) ≡ b → b ≡ false
+    other true e = absurd (let f : Some c ≡ None = h (keys_same m k n j e).0 in cc)
+    other false e = refl
+
+uncapped_call : (value : GrantsValue) (call : Call) (n j : ℕ) → CanCall value call → (IsTrue (has_row value n) → cap_in value n ≡ None) → spent_in value n j ≡ 0 → spent_in (after_call value call) n j ≡ 0
+uncapped_call value (Requested t drawing asked) n j can h before = before
+uncapped_call value (Decided m accept drawing) n j can h before = before
+uncapped_call value (Continued m t token reference drawing answer) n j can h before = before
+uncapped_call value (Cancelled m token) n j can h before = before
+uncapped_call value (Rotated m t token drawing) n j can h before = before
+uncapped_call value (Revoked m token) n j can h before = before
+uncapped_call value (Spent m k v) n j can h before =
+    uncapped_step (cap_in value m) value m k n j v (λ same. ap (cap_in value) same ∙ h (subst (λ i. IsTrue (has_row value i)) same can.0)) before
+uncapped_call value (GivenBack m k v) n j can h before =
+    let less = less_step (is_at (by_grant (n, j)) (m, k)) value m k n j v refl can.1 in
+    omega (arith, less, before)
+
+uncapped_calls : (value : GrantsValue) (calls : List Call) (n j : ℕ) → AreCalls value calls → cap_in (after_calls value calls) n ≡ None → spent_in value n j ≡ 0 → spent_in (after_calls value calls) n j ≡ 0
+uncapped_calls value [] n j can end before = before
+uncapped_calls value (call ∷ calls) n j can end before =
+    uncapped_calls (after_call value call) calls n j can.1 end
+    (uncapped_call value call n j can.0 (λ there. sym (cap_in-end value (call ∷ calls) n there) ∙ end) before)
+
+by_cap : (o : Option Cap) (calls : List Call) (n j : ℕ) → AreCalls no_grants calls → cap_in (after_calls no_grants calls) n ≡ o
+    → MatchOption o (spent_in (after_calls no_grants calls) n j ≡ 0) (IsSpentSum (after_calls no_grants calls) calls n j)
+by_cap None calls n j can end = uncapped_calls no_grants calls n j can end refl
+by_cap (Some cap) calls n j can end = spent_sum calls n j cap can end
+
+pub spending_is_sum : SpendingIsSum
+spending_is_sum calls n j can = by_cap (cap_in (after_calls no_grants calls) n) calls n j can refl

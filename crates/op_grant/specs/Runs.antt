@@ -1,5 +1,5 @@
 -- Lists of calls on grants, and what holds behind them.
-use Rattle.std.specs.Prelude.{ℕ, ◌≡◌, ◌+◌, ◌^◌, ◌<◌, ◌≤◌, Bool, ◌==◌, ◌&&◌, if◌then◌else◌, List, [], ◌∷◌, ◌++◌, sum_by, Some, None, Ok, IsTrue}
+use Rattle.std.specs.Prelude.{ℕ, ◌≡◌, ◌+◌, ◌^◌, ◌<◌, ◌≤◌, Bool, ◌==◌, ◌&&◌, if◌then◌else◌, List, [], ◌∷◌, ◌++◌, sum_by, Some, None, Ok, IsTrue, MatchOption}
 use Rattle.std.specs.declared.option.Option.{Option}
 use Rattle.op_names.specs.Secrets.{IsDrawn}
 use Rattle.op_model.specs.History.{nth}
@@ -77,16 +77,17 @@ abbrev pub given_back_by : (n j : ℕ) → Call → ℕ
 given_back_by n j (GivenBack m k v) = if (m == n) && (k == j) then v else 0
 given_back_by n j _ = 0
 
--- Behind any list of calls on no grants, what was spent in an interval of a capped grant is the sum of what was spent
--- there, less what was given back, and it is within the cap.
+-- what was spent in an interval of a grant with a cap is the sum of what was spent there, less what was given back, and
+-- it is within the cap
 pub record IsSpentSum (value : GrantsValue) (calls : List Call) (n j : ℕ) (cap : Cap) : Type 0 where
   pub sum : spent_in value n j + sum_by (given_back_by n j) calls ≡ sum_by (spent_by n j) calls
   pub within : spent_in value n j ≤ cap.sum.value
 
+-- behind any list of calls on no grants; nothing is counted for a grant without a cap
 abbrev pub SpendingIsSum : Type 0
 SpendingIsSum =
-    (calls : List Call) (n j : ℕ) (cap : Cap) → AreCalls no_grants calls → cap_in (after_calls no_grants calls) n ≡ Some cap
-    → IsSpentSum (after_calls no_grants calls) calls n j cap
+    (calls : List Call) (n j : ℕ) → AreCalls no_grants calls
+    → MatchOption (cap_in (after_calls no_grants calls) n) (spent_in (after_calls no_grants calls) n j ≡ 0) (IsSpentSum (after_calls no_grants calls) calls n j)
 
 -- ---- secrets
 

@@ -10,9 +10,8 @@ ghost use Rattle.op_grant.specs.Rows.{at_row, asked_row, ask_fault, decide_answe
 ghost use Rattle.op_grant.specs.declared.fault.GrantFault.TheVariants as faults;
 
 use crate::fault::{GrantFault, Proceeded};
-use crate::limits;
-use crate::rows;
 use crate::tokens::{Token, Tokens, place_of};
+use crate::{limits, rows};
 use op_model::{Asked, GrantRow, GrantState, Sum};
 use op_names::SecretText;
 use op_time::Moment;
@@ -95,9 +94,11 @@ impl Grants {
             return Err(GrantFault::RequestDenied);
         }
         self.rows.reserve(1)?;
-        self.tokens.reserve(self.rows.len() + 1 - self.tokens.len())?;
+        self.tokens
+            .reserve(self.rows.len() + 1 - self.tokens.len())?;
         let n = self.rows.len() as u64 + 1;
-        self.rows.push_reserved(rows::asked_row(t, word, place, asked));
+        self.rows
+            .push_reserved(rows::asked_row(t, word, place, asked));
         if immediate {
             self.tokens.push(Token { place, grant: n });
         }

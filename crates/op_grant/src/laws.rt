@@ -3,7 +3,7 @@
 ghost use Rattle.op_grant.specs.Runs.{SpendingIsSum, SecretsAreApart, OneLiveToken, EndedTokensAreGone};
 
 /// Behind any list of calls on no grants, what was spent in an interval of a grant with a cap is the sum of what was
-/// spent there, less what was given back, and it never passes the cap.
+/// spent there, less what was given back, and it never passes the cap. For a grant without a cap nothing is counted.
 pub fn spending_is_sum()
     ensures { SpendingIsSum }
 {}

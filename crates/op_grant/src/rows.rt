@@ -226,7 +226,8 @@ pub(crate) fn is_live(row: &GrantRow, t: Moment, token: &SecretText) -> bool
     ensures { result ≡ is_secret (live_token t row.now) token.now }
 {
     match row.issued {
-        Some(issued) => t.ms() < Moment::at_most_last(issued.ms() + TOKEN_LIFETIME).ms() && is_current(row, token),
+        Some(issued) => t.ms() < Moment::at_most_last(issued.ms() + TOKEN_LIFETIME).ms()
+            && is_current(row, token),
         None => false,
     }
 }

@@ -106,7 +106,7 @@ impl Tokens {
         requires behind { All (λ t. t.place < token.place) self.old.tokens }
         ensures tokens { MatchOption last (self.new.tokens ≡ self.old.tokens ++ token ∷ [])
             (λ text. (place : ℕ) → IsDrawnAt place text
-                → self.new.tokens ≡ left place self.old.tokens ++ token ∷ []) }
+            → self.new.tokens ≡ left place self.old.tokens ++ token ∷ []) }
         ensures room { self.new.room + length self.new.tokens ≡ self.old.room + length self.old.tokens }
     {
         self.take_away(last);

@@ -15,7 +15,7 @@ returns c =
     let counters = c.self.inside.counters in
     elim c.match-get_mut.branch [
       | in-Some w ↦ let written = (c.get_mut.follows.holds (w.in-Some.spent.now - c.args.value)).0 in
-      rw w.self-inside-is (given_back_is c.args.self.now rows counters.entries _ c.args.n c.args.j c.args.value w.in-Some.spent.now c.self.view_is w.in-Some.ensures.value written)
+          rw w.self-inside-is (given_back_is c.args.self.now rows counters.entries _ c.args.n c.args.j c.args.value w.in-Some.spent.now c.self.view_is w.in-Some.ensures.value written)
       | in_default w ↦ rw w.self-inside-is
-      (nothing_given_back c.args.self.now rows counters.entries _ c.args.n c.args.j c.args.value c.self.view_is w.in_default.ensures.value (ap (λ m. m.entries) c.get_mut.follows.holds-at-none))
+          (nothing_given_back c.args.self.now rows counters.entries _ c.args.n c.args.j c.args.value c.self.view_is w.in_default.ensures.value (ap (λ m. m.entries) c.get_mut.follows.holds-at-none))
     ]
