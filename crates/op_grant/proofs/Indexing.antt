@@ -18,7 +18,7 @@ use Rattle.op_grant.specs.Tokens.{TokensValue, grant_at, left}
 use Rattle.op_grant.specs.Limits.{are_readable}
 use Rattle.op_grant.specs.Places.{secrets_of, IsDrawnBefore, IsNewPlace}
 use Rattle.op_grant.specs.Indexed.{accesses, asked_items, IsDrawnAt, IsFound, IsHeld, AreIndexed, IsKept}
-use Rattle.op_grant.proofs.TokenLists.{all_at, grant_at-append, grant_at-last, grant_at-left, length-left, fewer_without}
+use Rattle.op_grant.proofs.TokenLists.{within_of_get, all_at, grant_at-append, grant_at-last, grant_at-left, length-left, fewer_without}
 use Rattle.op_grant.proofs.Numbered.{nth-changed, nth-other, map-with_item, map-unchanged, length-with_item, sum_by-with_item, nth-append, nth-last, nth_either, nth-map, of_map}
 
 some_is : {X : Type 0} (x y : X) → Some x ≡ Some y → x ≡ y
@@ -310,3 +310,8 @@ readable_at (x ∷ xs) (suc i) row h there = readable_at xs i row (both_of (are_
 pub readable_row : (rows : List GrantRow) (n : ℕ) (row : GrantRow) → IsTrue (list_all are_readable (asked_items rows)) → nth rows n ≡ Some row → IsTrue (are_readable row.items)
 readable_row rows zero row h there = absurd (let e : None ≡ Some row = there in cc)
 readable_row rows (suc i) row h there = readable_at rows i row h there
+
+-- a number that is there is at most the length
+pub number_within : {X : Type 0} (xs : List X) (n : ℕ) (x : X) → nth xs n ≡ Some x → n ≤ length xs
+number_within xs zero x h = omega arith
+number_within xs (suc i) x h = let within = within_of_get xs i x h in omega (arith, within)

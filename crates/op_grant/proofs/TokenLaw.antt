@@ -40,7 +40,7 @@ pub record IsGone (text : List ℕ) (rows : List GrantRow) : Type 0 where
 
 -- ---- new places
 
-new_from : (place : ℕ) (rows : List GrantRow) → ((n : ℕ) (row : GrantRow) → nth rows n ≡ Some row → All (IsDrawnBefore place) (secrets_of row)) → IsNewPlace place rows
+pub new_from : (place : ℕ) (rows : List GrantRow) → ((n : ℕ) (row : GrantRow) → nth rows n ≡ Some row → All (IsDrawnBefore place) (secrets_of row)) → IsNewPlace place rows
 new_from place rows each k d h = each (suc k) (get_or rows k d) (slice_get-get_or rows k d h)
 
 kept_step : (f : GrantRow → GrantRow) (b : Bool) (place : ℕ) (row : GrantRow) → secrets_of (f row) ≡ secrets_of row → All (IsDrawnBefore place) (secrets_of (cond b (f row) row)) → All (IsDrawnBefore place) (secrets_of row)

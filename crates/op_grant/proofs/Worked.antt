@@ -161,7 +161,7 @@ asset_next : may_spend_answer debit_cap 1 start 7 (record { asset = 2; value = 1
 asset_next = refl
 
 -- a payment of 102 that was closed with 45 sent
-closed_after_three_pieces : spent_in (spent_less (spent_more (limited (record { debit = true; sum = sum 200 })) 1 0 102) 1 0 57) 1 0 ≡ 45
+closed_after_three_pieces : spent_in (spent_less (spent_more (limited (record { debit = true; sum = sum 102 })) 1 0 102) 1 0 57) 1 0 ≡ 45
 closed_after_three_pieces = refl
 
 -- ---- an interval of months

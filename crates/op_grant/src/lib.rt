@@ -6,6 +6,8 @@ mod grants;
 mod laws;
 mod limits;
 mod rows;
+#[cfg(test)]
+mod tests;
 mod tokens;
 
 pub use fault::{GrantFault, Proceeded};
