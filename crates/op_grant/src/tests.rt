@@ -64,15 +64,17 @@ fn ask(
     place: u8,
     asked: Asked,
 ) -> Result<u64, GrantFault> {
-    assert!(rt; is_new_place(grants, u64::from(place)));
+    let number = u64::from(place);
+    assert!(rt; is_new_place(grants, number));
     assert!(rt; are_readable(asked.items.as_slice()));
-    grants.ask(t, &[place; 16], u64::from(place), asked)
+    grants.ask(t, &[place; 16], number, asked)
 }
 
 fn decide(rt: &impl Abort, grants: &mut Grants, accept: bool, place: u8) -> Result<(), GrantFault> {
-    assert!(rt; is_new_place(grants, u64::from(place)));
+    let number = u64::from(place);
+    assert!(rt; is_new_place(grants, number));
     assert!(rt; is_there(grants, 1));
-    grants.decide(1, accept, &[place; 16], u64::from(place))
+    grants.decide(1, accept, &[place; 16], number)
 }
 
 fn proceed(
@@ -83,9 +85,10 @@ fn proceed(
     reference: Option<&SecretText>,
     place: u8,
 ) -> Result<Proceeded, GrantFault> {
-    assert!(rt; is_new_place(grants, u64::from(place)));
+    let number = u64::from(place);
+    assert!(rt; is_new_place(grants, number));
     assert!(rt; is_there(grants, 1));
-    grants.proceed(1, t, token, reference, &[place; 16], u64::from(place))
+    grants.proceed(1, t, token, reference, &[place; 16], number)
 }
 
 fn rotate(
@@ -95,9 +98,10 @@ fn rotate(
     token: &SecretText,
     place: u8,
 ) -> Result<(), GrantFault> {
-    assert!(rt; is_new_place(grants, u64::from(place)));
+    let number = u64::from(place);
+    assert!(rt; is_new_place(grants, number));
     assert!(rt; is_there(grants, 1));
-    grants.rotate(1, t, token, &[place; 16], u64::from(place))
+    grants.rotate(1, t, token, &[place; 16], number)
 }
 
 fn cancel(rt: &impl Abort, grants: &mut Grants, token: &SecretText) -> Result<(), GrantFault> {
@@ -180,11 +184,23 @@ fn a_client_waits_between_polls(rt: HostRuntime) -> Result<(), Fail> {
     let mut grants = waiting(&rt, rt.alloc())?;
     let token = secret("c09090909090909090909090909090909-9")?;
     let early = Err(GrantFault::TooFast);
-    assert_eq!(rt; proceed(&rt, &mut grants, after(4_999), &token, None, 10), early);
+    assert_eq!(rt;
+        proceed(&rt, &mut grants, after(4_999), &token, None, 10),
+        early
+    );
     let polled = Ok(Proceeded::Polled);
-    assert_eq!(rt; proceed(&rt, &mut grants, after(5_000), &token, None, 10), polled);
-    assert_eq!(rt; proceed(&rt, &mut grants, after(9_999), &token, None, 10), early);
-    assert_eq!(rt; proceed(&rt, &mut grants, after(10_000), &token, None, 10), polled);
+    assert_eq!(rt;
+        proceed(&rt, &mut grants, after(5_000), &token, None, 10),
+        polled
+    );
+    assert_eq!(rt;
+        proceed(&rt, &mut grants, after(9_999), &token, None, 10),
+        early
+    );
+    assert_eq!(rt;
+        proceed(&rt, &mut grants, after(10_000), &token, None, 10),
+        polled
+    );
     Ok(())
 }
 
@@ -193,18 +209,33 @@ fn an_accepted_grant_needs_its_reference(rt: HostRuntime) -> Result<(), Fail> {
     let mut grants = waiting(&rt, rt.alloc())?;
     let token = secret("c09090909090909090909090909090909-9")?;
     assert_eq!(rt; decide(&rt, &mut grants, true, 10), Ok(()));
-    assert_eq!(rt; decide(&rt, &mut grants, false, 11), Err(GrantFault::NotPending));
+    assert_eq!(rt;
+        decide(&rt, &mut grants, false, 11),
+        Err(GrantFault::NotPending)
+    );
     let wrong = secret("i0b0b0b0b0b0b0b0b0b0b0b0b0b0b0b0b-10")?;
     let right = secret("i0a0a0a0a0a0a0a0a0a0a0a0a0a0a0a0a-10")?;
     let invalid = Err(GrantFault::InvalidInteraction);
-    assert_eq!(rt; proceed(&rt, &mut grants, after(0), &token, Some(&wrong), 11), invalid);
-    assert_eq!(rt; proceed(&rt, &mut grants, after(5_000), &token, None, 11), invalid);
+    assert_eq!(rt;
+        proceed(&rt, &mut grants, after(0), &token, Some(&wrong), 11),
+        invalid
+    );
+    assert_eq!(rt;
+        proceed(&rt, &mut grants, after(5_000), &token, None, 11),
+        invalid
+    );
     let issued = Ok(Proceeded::Issued);
-    assert_eq!(rt; proceed(&rt, &mut grants, after(0), &token, Some(&right), 11), issued);
+    assert_eq!(rt;
+        proceed(&rt, &mut grants, after(0), &token, Some(&right), 11),
+        issued
+    );
     let access = secret("a0b0b0b0b0b0b0b0b0b0b0b0b0b0b0b0b-11")?;
     assert_eq!(rt; grants.grant_of(&access, after(599_999)), Some(1));
     let over = Err(GrantFault::InvalidContinuation);
-    assert_eq!(rt; proceed(&rt, &mut grants, after(0), &token, Some(&right), 12), over);
+    assert_eq!(rt;
+        proceed(&rt, &mut grants, after(0), &token, Some(&right), 12),
+        over
+    );
     Ok(())
 }
 
@@ -215,7 +246,10 @@ fn an_issued_grant_is_cancelled_by_its_next_token(rt: HostRuntime) -> Result<(),
     let reference = secret("i0a0a0a0a0a0a0a0a0a0a0a0a0a0a0a0a-10")?;
     assert_eq!(rt; decide(&rt, &mut grants, true, 10), Ok(()));
     let issued = Ok(Proceeded::Issued);
-    assert_eq!(rt; proceed(&rt, &mut grants, after(0), &token, Some(&reference), 11), issued);
+    assert_eq!(rt;
+        proceed(&rt, &mut grants, after(0), &token, Some(&reference), 11),
+        issued
+    );
     let invalid = Err(GrantFault::InvalidContinuation);
     assert_eq!(rt; cancel(&rt, &mut grants, &token), invalid);
     let next = secret("c0b0b0b0b0b0b0b0b0b0b0b0b0b0b0b0b-11")?;
@@ -232,8 +266,14 @@ fn a_rejected_grant_is_denied(rt: HostRuntime) -> Result<(), Fail> {
     let token = secret("c09090909090909090909090909090909-9")?;
     assert_eq!(rt; decide(&rt, &mut grants, false, 10), Ok(()));
     let denied = Err(GrantFault::UserDenied);
-    assert_eq!(rt; proceed(&rt, &mut grants, after(0), &token, None, 11), denied);
-    assert_eq!(rt; decide(&rt, &mut grants, true, 11), Err(GrantFault::NotPending));
+    assert_eq!(rt;
+        proceed(&rt, &mut grants, after(0), &token, None, 11),
+        denied
+    );
+    assert_eq!(rt;
+        decide(&rt, &mut grants, true, 11),
+        Err(GrantFault::NotPending)
+    );
     Ok(())
 }
 
@@ -317,11 +357,17 @@ fn spent(rt: &impl Abort, grants: &Grants, j: u64) -> u64 {
 #[test]
 fn two_payments_pass_one_limit(rt: HostRuntime) -> Result<(), Fail> {
     let mut grants = capped(&rt, rt.alloc(), cap(true, 100), None)?;
-    assert_eq!(rt; may_spend(&rt, &grants, after(0), 7, sum(60), sum(1)), Ok(0));
+    assert_eq!(rt;
+        may_spend(&rt, &grants, after(0), 7, sum(60), sum(1)),
+        Ok(0)
+    );
     spend(&rt, &mut grants, 0, 60)?;
     let over = Err(GrantFault::OverLimit { spent: 60 });
     assert_eq!(rt; may_spend(&rt, &grants, after(0), 7, sum(60), sum(1)), over);
-    assert_eq!(rt; may_spend(&rt, &grants, after(0), 7, sum(40), sum(1)), Ok(0));
+    assert_eq!(rt;
+        may_spend(&rt, &grants, after(0), 7, sum(40), sum(1)),
+        Ok(0)
+    );
     Ok(())
 }
 
@@ -329,8 +375,14 @@ fn two_payments_pass_one_limit(rt: HostRuntime) -> Result<(), Fail> {
 fn a_receive_cap_counts_what_is_received(rt: HostRuntime) -> Result<(), Fail> {
     let grants = capped(&rt, rt.alloc(), cap(false, 100), None)?;
     let over = Err(GrantFault::OverLimit { spent: 0 });
-    assert_eq!(rt; may_spend(&rt, &grants, after(0), 7, sum(1), sum(101)), over);
-    assert_eq!(rt; may_spend(&rt, &grants, after(0), 7, sum(101), sum(100)), Ok(0));
+    assert_eq!(rt;
+        may_spend(&rt, &grants, after(0), 7, sum(1), sum(101)),
+        over
+    );
+    assert_eq!(rt;
+        may_spend(&rt, &grants, after(0), 7, sum(101), sum(100)),
+        Ok(0)
+    );
     Ok(())
 }
 
@@ -373,7 +425,10 @@ fn each_interval_has_its_own_limit(rt: HostRuntime) -> Result<(), Fail> {
     let before = at(1_709_251_199_999);
     let outside = Err(GrantFault::OutsideInterval);
     assert_eq!(rt; may_spend(&rt, &grants, before, 7, sum(1), sum(1)), outside);
-    assert_eq!(rt; may_spend(&rt, &grants, after(0), 7, sum(100), sum(1)), Ok(0));
+    assert_eq!(rt;
+        may_spend(&rt, &grants, after(0), 7, sum(100), sum(1)),
+        Ok(0)
+    );
     spend(&rt, &mut grants, 0, 100)?;
     let next = at(1_711_929_600_000);
     assert_eq!(rt; may_spend(&rt, &grants, next, 7, sum(100), sum(1)), Ok(1));
