@@ -1,6 +1,6 @@
 -- One row changed, and what is answered by it.
-use Rattle.std.proofs.Common.{◌≡◌, ℕ, ◌-◌, List, [], ◌∷◌, get_or, refl, sym, ap, subst, ◌∙◌, IsTrue, Ok, Err}
-use Rattle.std.specs.Prelude.{Some, None, slice_set, is_some}
+use Rattle.std.proofs.Common.{◌≡◌, ℕ, ◌-◌, List, get_or, sym, ap, subst, ◌∙◌, IsTrue, Err}
+use Rattle.std.specs.Prelude.{Some, slice_set, is_some}
 use Rattle.std.specs.Option.{option_map_or}
 use Rattle.std.specs.declared.result.Result.{Result}
 use Rattle.op_model.specs.History.{nth, with_item}

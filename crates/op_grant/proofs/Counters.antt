@@ -1,14 +1,13 @@
 -- Counters by grant and interval, behind a write.
-use Rattle.std.proofs.Common.{◌≡◌, ℕ, ◌+◌, ◌-◌, Bool, true, false, cond, List, [], ◌∷◌, nat_cmp, refl, sym, ap, subst, ◌∙◌, arith, tests}
-use Rattle.std.specs.Prelude.{Some, None, ◌==◌, ◌&&◌, unwrap_or}
+use Rattle.std.proofs.Common.{◌≡◌, ℕ, Bool, true, false, cond, List, [], ◌∷◌, nat_cmp, refl, sym, ap, ◌∙◌, arith, tests}
+use Rattle.std.specs.Prelude.{Some, None}
 use Rattle.std.specs.Ordering.{ordering_then, is_eq, match_ordering}
 use Rattle.std.specs.Map.{lookup, set_value}
 use Rattle.std.specs.BTreeMap.{insert_entry, is_at}
 use Rattle.std.specs.declared.cmp.Ordering.{Ordering}
 use Rattle.std.specs.declared.cmp.Ordering.TheVariants.{Less, Equal, Greater}
 use Rattle.std.specs.declared.option.Option.{Option}
-use Rattle.std.proofs.lemmas.Bool.Decides.{nat_tests}
-use Rattle.op_grant.specs.Value.{GrantsValue, by_grant, counter_of, spent_in, with_spent}
+use Rattle.op_grant.specs.Value.{by_grant}
 
 abbrev pub Key : Type 0
 Key = ℕ × ℕ

@@ -1,15 +1,14 @@
 -- A grant that is found by its token.
-use Rattle.std.proofs.Common.{◌≡◌, ℕ, Bool, true, false, cond, List, refl, sym, ap, subst, ◌∙◌}
+use Rattle.std.proofs.Common.{◌≡◌, ℕ, Bool, true, false, cond, List, refl, sym, ap, ◌∙◌}
 use Rattle.std.specs.Prelude.{Some, None, ◌||◌, nat_lt}
 use Rattle.std.specs.Option.{option_map, option_map_or}
-use Rattle.std.specs.Str.{bytes_eq}
 use Rattle.std.specs.declared.option.Option.{Option}
 use Rattle.op_names.proofs.Choices.{from_same_bytes}
 use Rattle.op_model.specs.History.{nth, number_of, lifetime_end}
 use Rattle.op_model.specs.Grants.{live_token, current_token, is_secret, is_cancelled, token_lifetime}
 use Rattle.op_model.specs.declared.row.GrantRow.{GrantRow}
 use Rattle.op_grant.specs.Tokens.{TokensValue, grant_at}
-use Rattle.op_grant.specs.Indexed.{accesses, IsDrawnAt, IsFound, IsKept}
+use Rattle.op_grant.specs.Indexed.{IsDrawnAt, IsFound, IsKept}
 use Rattle.op_grant.proofs.Numbered.{nth-map, number_of_none, number_of_only}
 
 some_is : {X : Type 0} (x y : X) → Some x ≡ Some y → x ≡ y

@@ -1,14 +1,13 @@
 -- What calls leave of the index of access tokens.
-use Rattle.std.proofs.Common.{◌≡◌, ◌≢◌, ℕ, zero, suc, ◌+◌, ◌-◌, ◌^◌, ◌<◌, ◌≤◌, Bool, true, false, cond, List, [], ◌∷◌, ◌++◌, length, map, get_or, refl, sym, ap, subst, ◌∙◌, arith, length-append, IsTrue, ⊎_elim, ◌⊎◌, inl, inr}
-use Rattle.std.specs.Prelude.{Some, None, ◌==◌, not, ◌&&◌, slice_get, sum_by, count_by, All, filter, MatchOption}
-use Rattle.std.specs.List.{list_all, find}
+use Rattle.std.proofs.Common.{◌≡◌, ◌≢◌, ℕ, zero, suc, ◌+◌, ◌<◌, ◌≤◌, Bool, true, false, cond, List, [], ◌∷◌, ◌++◌, length, get_or, refl, sym, ap, subst, ◌∙◌, arith, length-append, IsTrue, ⊎_elim, ◌⊎◌, inl, inr}
+use Rattle.std.specs.Prelude.{Some, None, ◌==◌, not, ◌&&◌, slice_get, All, MatchOption}
+use Rattle.std.specs.List.{list_all}
 use Rattle.std.specs.Option.{option_map, is_some, option_to_list}
 use Rattle.std.specs.declared.option.Option.{Option}
 use Rattle.std.proofs.lemmas.Bool.Decides.{nat_tests}
 use Rattle.std.proofs.lemmas.List.Elements.{All-append, All-filter, filter_passes}
 use Rattle.std.proofs.lemmas.List.{length-map, map-append}
 use Rattle.std.proofs.lemmas.List.Sums.{count_by-le-length, sum_by-append}
-use Rattle.op_names.specs.Secrets.{secret_text, IsDrawn}
 use Rattle.op_names.specs.declared.Letter.TheVariants.{Access}
 use Rattle.op_names.proofs.SecretTexts.{same_place}
 use Rattle.op_model.specs.History.{nth, with_item}
@@ -18,7 +17,7 @@ use Rattle.op_grant.specs.Tokens.{TokensValue, grant_at, left}
 use Rattle.op_grant.specs.Limits.{are_readable}
 use Rattle.op_grant.specs.Places.{secrets_of, IsDrawnBefore, IsNewPlace}
 use Rattle.op_grant.specs.Indexed.{accesses, asked_items, IsDrawnAt, IsFound, IsHeld, AreIndexed, IsKept}
-use Rattle.op_grant.proofs.TokenLists.{within_of_get, all_at, grant_at-append, grant_at-last, grant_at-left, length-left, fewer_without}
+use Rattle.op_grant.proofs.TokenLists.{within_of_get, all_at, grant_at-append, grant_at-last, grant_at-left, fewer_without}
 use Rattle.op_grant.proofs.Numbered.{nth-changed, nth-other, map-with_item, map-unchanged, length-with_item, sum_by-with_item, nth-append, nth-last, nth_either, nth-map, of_map}
 
 some_is : {X : Type 0} (x y : X) → Some x ≡ Some y → x ≡ y

@@ -1,17 +1,16 @@
 -- The secrets of grants, behind a list of calls.
-use Rattle.std.proofs.Common.{◌≡◌, ◌≢◌, ℕ, zero, suc, ◌+◌, ◌^◌, ◌<◌, ◌≤◌, Bool, true, false, cond, List, [], ◌∷◌, ◌++◌, length, map, get_or, refl, sym, ap, subst, ◌∙◌, arith, IsTrue, ⊎_elim, ◌⊎◌, inl, inr}
-use Rattle.std.specs.Prelude.{Some, None, All, slice_get, is_some}
-use Rattle.std.specs.Option.{option_map, option_map_or, option_to_list}
+use Rattle.std.proofs.Common.{◌≡◌, ◌≢◌, ℕ, zero, suc, ◌+◌, ◌^◌, ◌<◌, Bool, true, false, cond, List, [], ◌∷◌, ◌++◌, length, map, refl, sym, ap, subst, ◌∙◌, arith, IsTrue, ⊎_elim, ◌⊎◌, inl, inr}
+use Rattle.std.specs.Prelude.{Some, None, All, is_some}
+use Rattle.std.specs.Option.{option_map, option_to_list}
 use Rattle.std.specs.declared.option.Option.{Option}
 use Rattle.std.proofs.lemmas.List.{map-append}
-use Rattle.std.proofs.lemmas.Option.{slice_get-get_or}
 use Rattle.op_names.specs.Secrets.{secret_text, IsDrawn}
 use Rattle.op_names.specs.declared.Letter.{Letter}
 use Rattle.op_names.specs.declared.Letter.TheVariants.{Access, Continuation, Nonce, Interaction}
-use Rattle.op_model.specs.History.{nth, with_item, changed_at}
+use Rattle.op_model.specs.History.{nth, with_item}
 use Rattle.op_model.specs.Grants.{is_immediate}
 use Rattle.op_model.specs.declared.row.GrantRow.{GrantRow}
-use Rattle.op_grant.specs.Value.{GrantsValue, no_grants, has_row, with_grant, with_row, cap_in, spent_in}
+use Rattle.op_grant.specs.Value.{GrantsValue, no_grants, has_row, cap_in, spent_in}
 use Rattle.op_grant.specs.Places.{secrets_of, IsDrawnBefore, IsNewPlace}
 use Rattle.op_grant.specs.Rows.{asked_row, decided, proceeded_row, cancelled, rotated, revoked}
 use Rattle.op_grant.specs.declared.fault.Proceeded.{Proceeded}
@@ -20,7 +19,7 @@ use Rattle.op_grant.specs.Runs.{Drawing, IsDrawing, Call, CanCall, AreCalls, aft
 use Rattle.op_grant.specs.Runs.Call.{Requested, Decided, Continued, Cancelled, Rotated, Revoked, Spent, GivenBack}
 use Rattle.op_grant.proofs.TokenLists.{all_at}
 use Rattle.op_grant.proofs.Indexing.{Texts, with_text, number_cases, access_before, row_at}
-use Rattle.op_grant.proofs.Numbered.{nth-with_item, nth-changed, nth-other, map-with_item, map-unchanged, nth-append, nth-last, nth_either, nth-map, of_map}
+use Rattle.op_grant.proofs.Numbered.{nth-changed, nth-other, map-with_item, map-unchanged, nth_either, nth-map, of_map}
 use Rattle.op_grant.proofs.SpendingLaw.{there_of, rows_stay}
 
 some_is : {X : Type 0} (x y : X) → Some x ≡ Some y → x ≡ y

@@ -1,17 +1,17 @@
 -- What was spent, behind a list of calls.
-use Rattle.std.proofs.Common.{◌≡◌, ℕ, suc, zero, ◌+◌, ◌-◌, ◌<◌, ◌≤◌, Bool, true, false, cond, List, [], ◌∷◌, ◌++◌, refl, sym, ap, subst, ◌∙◌, arith, tests, IsTrue, Ok, sum_by}
+use Rattle.std.proofs.Common.{◌≡◌, ℕ, ◌+◌, ◌-◌, ◌≤◌, Bool, true, false, cond, List, [], ◌∷◌, refl, sym, ap, subst, ◌∙◌, arith, IsTrue, sum_by}
 use Rattle.std.specs.Prelude.{Some, None, ◌==◌, ◌&&◌, not, nat_lt, is_some, unwrap_or, MatchOption}
 use Rattle.std.specs.Option.{option_map, option_map_or, option_and_then}
 use Rattle.std.specs.Map.{lookup, set_value}
-use Rattle.std.specs.BTreeMap.{is_at, insert_entry}
+use Rattle.std.specs.BTreeMap.{is_at}
 use Rattle.std.specs.declared.option.Option.{Option}
 use Rattle.std.proofs.lemmas.Bool.Decides.{nat_tests}
 use Rattle.std.proofs.lemmas.List.Sums.{sum_by-cons}
-use Rattle.op_model.specs.History.{nth, with_item, changed_at}
+use Rattle.op_model.specs.History.{nth, changed_at}
 use Rattle.op_model.specs.Grants.{cap_of}
 use Rattle.op_model.specs.declared.grant.Cap.{Cap}
 use Rattle.op_model.specs.declared.row.GrantRow.{GrantRow}
-use Rattle.op_grant.specs.Value.{GrantsValue, no_grants, has_row, with_grant, with_row, cap_in, by_grant, counter_of, spent_in, with_spent, spent_more, spent_less}
+use Rattle.op_grant.specs.Value.{GrantsValue, no_grants, has_row, with_row, cap_in, by_grant, counter_of, spent_in, with_spent, spent_less}
 use Rattle.op_grant.specs.Limits.{covers_spending, passes_cap}
 use Rattle.op_grant.specs.Rows.{proceeded_row}
 use Rattle.op_grant.specs.declared.fault.Proceeded.{Proceeded}

@@ -1,21 +1,20 @@
 -- Tokens that ended are gone.
-use Rattle.std.proofs.Common.{◌≡◌, ◌≢◌, ℕ, zero, suc, ◌+◌, ◌^◌, ◌<◌, ◌≤◌, Bool, true, false, cond, List, [], ◌∷◌, ◌++◌, length, map, get_or, refl, sym, ap, subst, ◌∙◌, arith, add-zero, IsTrue, Ok, Err, ⊎_elim, ◌⊎◌, inl, inr}
-use Rattle.std.specs.Prelude.{Some, None, All, ◌||◌, ◌==◌, is_some, slice_get}
+use Rattle.std.proofs.Common.{◌≡◌, ◌≢◌, ℕ, suc, ◌+◌, ◌^◌, ◌<◌, Bool, true, false, cond, List, [], ◌∷◌, ◌++◌, length, map, get_or, refl, sym, ap, subst, ◌∙◌, arith, add-zero, IsTrue, Ok, Err, ⊎_elim, ◌⊎◌, inl, inr}
+use Rattle.std.specs.Prelude.{Some, None, All, ◌||◌, ◌==◌, slice_get}
 use Rattle.std.specs.List.{position_from}
 use Rattle.std.specs.Option.{option_map, option_map_or}
-use Rattle.std.specs.declared.option.Option.{Option}
 use Rattle.std.specs.declared.result.Result.{Result}
 use Rattle.std.proofs.lemmas.Option.{slice_get-get_or}
 use Rattle.op_names.specs.Secrets.{secret_text, IsDrawn}
 use Rattle.op_names.specs.declared.Letter.{Letter}
-use Rattle.op_names.specs.declared.Letter.TheVariants.{Access, Continuation, Nonce, Interaction}
+use Rattle.op_names.specs.declared.Letter.TheVariants.{Access, Continuation, Interaction}
 use Rattle.op_model.specs.History.{nth, with_item, changed_at, number_of}
 use Rattle.op_model.specs.Grants.{is_immediate, current_token, live_token, is_cancelled}
 use Rattle.op_model.specs.GrantAnswers.{is_pending}
 use Rattle.op_model.specs.declared.row.GrantRow.{GrantRow}
 use Rattle.op_model.specs.declared.row.GrantState.{GrantState}
 use Rattle.op_model.specs.declared.row.GrantState.TheVariants as states
-use Rattle.op_grant.specs.Value.{GrantsValue, no_grants, has_row, with_grant, with_row, cap_in, spent_in}
+use Rattle.op_grant.specs.Value.{GrantsValue, no_grants, has_row, cap_in, spent_in}
 use Rattle.op_grant.specs.Places.{secrets_of, IsDrawnBefore, IsNewPlace}
 use Rattle.op_grant.specs.Rows.{at_row, asked_row, decide_answer, decided, proceeded_row, cancelled, rotated, revoked, grant_of_live}
 use Rattle.op_grant.specs.declared.fault.GrantFault.{GrantFault}
@@ -26,7 +25,7 @@ use Rattle.op_grant.specs.Runs.{Drawing, IsDrawing, Call, CanCall, AreCalls, aft
 use Rattle.op_grant.specs.Runs.Call.{Requested, Decided, Continued, Cancelled, Rotated, Revoked, Spent, GivenBack}
 use Rattle.op_grant.proofs.Finding.{current_access, live_current, live_is, is_live, false_where}
 use Rattle.op_grant.proofs.Indexing.{number_cases, access_before}
-use Rattle.op_grant.proofs.Numbered.{nth-with_item, nth-changed, nth-other, nth-append, nth-last, nth_either, nth-map, of_map, number_of_none}
+use Rattle.op_grant.proofs.Numbered.{nth-with_item, nth-changed, nth-other, nth-last, nth_either, nth-map, of_map, number_of_none}
 use Rattle.op_grant.proofs.SecretLaw.{HaveSecrets, not_drawn, new_at, reference_before, continuation_before, secrets_calls, no_secrets}
 use Rattle.op_grant.proofs.SpendingLaw.{there_of, rows_stay}
 

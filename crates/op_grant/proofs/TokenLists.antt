@@ -1,6 +1,6 @@
 -- Lists of tokens in ascending order of their places.
-use Rattle.std.proofs.Common.{◌≡◌, ◌≢◌, ℕ, zero, suc, ◌+◌, ◌-◌, ◌<◌, ◌≤◌, Bool, true, false, cond, List, [], ◌∷◌, ◌++◌, length, get_or, take, drop, nat_cmp, refl, sym, ap, subst, ◌∙◌, arith, tests, Ok, Err, ⊎_elim, ◌⊎◌, inl, inr}
-use Rattle.std.specs.Prelude.{Some, None, not, ◌==◌, All, filter, slice_get, remove, IfSome, MatchOption, MatchResult, HoldsAt}
+use Rattle.std.proofs.Common.{◌≡◌, ◌≢◌, ℕ, zero, suc, ◌+◌, ◌<◌, ◌≤◌, Bool, true, false, cond, List, [], ◌∷◌, ◌++◌, length, get_or, nat_cmp, refl, sym, ap, subst, ◌∙◌, arith, tests, Ok, Err, ⊎_elim, ◌⊎◌, inl, inr}
+use Rattle.std.specs.Prelude.{Some, None, not, ◌==◌, All, slice_get, remove, IfSome, MatchOption, MatchResult}
 use Rattle.std.specs.List.{find}
 use Rattle.std.specs.List.Sorted.{IsBinarySearchResult}
 use Rattle.std.specs.Option.{option_map, option_or}

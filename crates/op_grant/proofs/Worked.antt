@@ -1,10 +1,9 @@
 -- Worked rows: how long a token lives, a continuation, two payments under one limit, a payment that is closed.
-use Rattle.std.proofs.Common.{◌≡◌, refl, ℕ, ◌+◌, Bool, true, false, List, [], ◌∷◌, codes, Ok, Err}
+use Rattle.std.proofs.Common.{◌≡◌, refl, ℕ, ◌+◌, true, false, List, [], ◌∷◌, codes, Ok, Err}
 use Rattle.std.specs.Prelude.{Some, None, replicate}
 use Rattle.std.specs.Fmt.{digits}
 use Rattle.hex.proofs.OnLiterals.{hex_on_literals}
 use Rattle.std.specs.declared.option.Option.{Option}
-use Rattle.op_model.specs.declared.grant.Asked.{Asked}
 use Rattle.op_model.specs.declared.grant.Cap.{Cap}
 use Rattle.op_model.specs.declared.grant.Sum.{Sum}
 use Rattle.op_model.specs.declared.grant.Finish.{Finish}

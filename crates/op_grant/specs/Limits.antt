@@ -1,16 +1,14 @@
 -- The limits of spending under a grant (Open Payments, limits of outgoing payments).
-use Rattle.std.specs.Prelude.{ℕ, ◌+◌, Bool, true, false, not, ◌==◌, nat_lt, if◌then◌else◌, List, Some, Ok, Err, IsTrue}
+use Rattle.std.specs.Prelude.{ℕ, ◌+◌, Bool, true, false, not, ◌==◌, nat_lt, if◌then◌else◌, List, Some, Ok, Err}
 use Rattle.std.specs.List.{list_all}
 use Rattle.std.specs.Option.{option_map_or, option_and_then, is_some}
 use Rattle.std.specs.Str.{is_utf8}
-use Rattle.std.specs.declared.option.Option.{Option}
 use Rattle.std.specs.declared.result.Result.{Result}
 use Rattle.op_time.specs.Texts.{interval_of}
 use Rattle.op_model.specs.Grants.{cap_of, limits_of, interval_at}
 use Rattle.op_model.specs.Access.{differ}
 use Rattle.op_model.specs.declared.grant.Cap.{Cap}
 use Rattle.op_model.specs.declared.grant.Item.{Item}
-use Rattle.op_model.specs.declared.grant.Limits.{Limits}
 use Rattle.op_model.specs.declared.grant.Sum.{Sum}
 use Rattle.op_model.specs.declared.row.GrantRow.{GrantRow}
 use Rattle.op_grant.specs.Value.{GrantsValue, spent_in, cap_in}

@@ -1,5 +1,5 @@
 -- Access tokens by the places of the entries that drew them.
-use Rattle.std.specs.Prelude.{ℕ, ◌≡◌, ◌<◌, not, ◌==◌, List, [], ◌∷◌, All, length, filter, slice_get, option_map, Some, None, IfSome}
+use Rattle.std.specs.Prelude.{ℕ, ◌≡◌, ◌<◌, not, ◌==◌, List, [], ◌∷◌, All, length, filter, slice_get, option_map, IfSome}
 use Rattle.std.specs.List.{find}
 use Rattle.std.specs.declared.option.Option.{Option}
 use Rattle.op_grant.specs.declared.tokens.Token.{Token}

@@ -1,4 +1,3 @@
-use Rattle.std.proofs.Common.{sym, ◌∙◌}
 use Rattle.op_grant.proofs.LimitFacts.{interval_readable}
 use Rattle.op_grant.proofs.limits.repeats.Goals as goal
 

@@ -1,5 +1,4 @@
 use Rattle.std.proofs.Common.{◌≡◌, ℕ, ◌^◌, ◌<◌, length, get_or, ap, sym, ◌∙◌, rules, Some}
-use Rattle.op_names.specs.Secrets.{IsDrawn}
 use Rattle.op_names.specs.declared.Letter.TheVariants.{Access}
 use Rattle.op_names.proofs.SecretTexts.{same_place}
 use Rattle.op_grant.proofs.tokens.place_of.Goals as goal

@@ -3,7 +3,7 @@ use Rattle.std.specs.Prelude.{All, if◌then◌else◌}
 use Rattle.op_names.specs.Secrets.{secret_text}
 use Rattle.op_names.specs.declared.Letter.TheVariants.{Access}
 use Rattle.op_model.specs.Grants.{is_immediate}
-use Rattle.op_grant.specs.Indexed.{IsKept, IsDrawnAt}
+use Rattle.op_grant.specs.Indexed.{IsDrawnAt}
 use Rattle.op_grant.specs.Limits.{are_readable}
 use Rattle.op_grant.specs.Places.{IsNewPlace}
 use Rattle.op_grant.proofs.Indexing.{kept_pending, kept_immediate, behind_all}

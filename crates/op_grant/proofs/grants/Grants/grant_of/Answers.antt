@@ -1,6 +1,5 @@
-use Rattle.std.proofs.Common.{◌≡◌, ap, sym, ◌∙◌, subst, true, false, Some, None}
-use Rattle.op_model.specs.History.{nth, number_of}
-use Rattle.op_grant.specs.Rows.{grant_of_live}
+use Rattle.std.proofs.Common.{◌≡◌, ap, sym, ◌∙◌}
+use Rattle.op_model.specs.History.{nth}
 use Rattle.op_grant.specs.Tokens.{grant_at}
 use Rattle.op_grant.proofs.Finding.{is_live, nowhere, one_grant, somewhere}
 use Rattle.op_grant.proofs.grants.Grants.grant_of.Goals as goal

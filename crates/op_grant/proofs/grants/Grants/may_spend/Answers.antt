@@ -1,6 +1,5 @@
-use Rattle.std.proofs.Common.{◌≡◌, sym, subst, ap, ◌∙◌, Ok, Err, IsTrue, Some, None}
-use Rattle.std.specs.Option.{option_map_or}
-use Rattle.op_grant.specs.Limits.{are_readable, within_cap, may_spend_answer}
+use Rattle.std.proofs.Common.{sym, subst, ◌∙◌, Ok, Err, IsTrue, Some, None}
+use Rattle.op_grant.specs.Limits.{are_readable, may_spend_answer}
 use Rattle.op_grant.specs.declared.fault.GrantFault.TheVariants.{OutsideInterval, OverLimit}
 use Rattle.op_grant.proofs.Changes.{Reads, answered, found_in}
 use Rattle.op_grant.proofs.Indexing.{readable_row}

@@ -1,6 +1,5 @@
 use Rattle.std.proofs.Common.{sym, subst, refl, Ok, Err}
 use Rattle.std.proofs.lemmas.Result.{err_from_is_err_and}
-use Rattle.op_model.specs.declared.row.GrantRow.{GrantRow}
 use Rattle.op_grant.specs.Indexed.{IsKept}
 use Rattle.op_grant.specs.Rows.{token_answer, revoked}
 use Rattle.op_grant.proofs.Indexing.{kept_changed}

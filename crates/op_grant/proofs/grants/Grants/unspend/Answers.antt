@@ -1,4 +1,4 @@
-use Rattle.std.proofs.Common.{◌≡◌, ◌≤◌, ◌-◌, sym, ap, subst, ◌∙◌, Some}
+use Rattle.std.proofs.Common.{◌≤◌, ◌-◌, sym, ap, subst}
 use Rattle.std.specs.Prelude.{unwrap_or}
 use Rattle.op_grant.specs.Value.{spent_in}
 use Rattle.op_grant.proofs.Spending.{given_back_is, nothing_given_back}

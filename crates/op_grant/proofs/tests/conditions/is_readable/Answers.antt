@@ -1,9 +1,9 @@
-use Rattle.std.proofs.Common.{◌≡◌, Bool, true, false, cond, sym, ap, subst, ◌∙◌, refl, Ok, Err}
+use Rattle.std.proofs.Common.{◌≡◌, false, cond, sym, ap, ◌∙◌, refl, Ok, Err}
 use Rattle.std.specs.Prelude.{is_ok}
 use Rattle.std.specs.Option.{is_some}
 use Rattle.std.specs.Result.{result_ok}
 use Rattle.std.specs.declared.result.Result.{Result}
-use Rattle.std.specs.Str.{IsUtf8, is_utf8}
+use Rattle.std.specs.Str.{is_utf8}
 use Rattle.std.proofs.lemmas.Str.{IsUtf8-from_is_utf8, is_utf8-from_IsUtf8}
 use Rattle.op_time.specs.Texts.{interval_in, interval_of}
 use Rattle.op_grant.proofs.Finding.{false_where}

@@ -1,5 +1,5 @@
-use Rattle.std.proofs.Common.{ap, sym, subst, ◌∙◌, ◌≡◌, Some}
-use Rattle.op_grant.specs.Tokens.{grant_at, IsTokenAt}
+use Rattle.std.proofs.Common.{sym, subst}
+use Rattle.op_grant.specs.Tokens.{IsTokenAt}
 use Rattle.op_grant.proofs.TokenLists.{grant_found}
 use Rattle.op_grant.proofs.tokens.Tokens.find.Goals as goal
 

@@ -1,7 +1,6 @@
-use Rattle.std.proofs.Common.{ap, sym, subst, ◌∙◌, rules, None, MatchOption}
-use Rattle.std.specs.Result.{result_ok}
+use Rattle.std.proofs.Common.{sym, subst, rules}
 use Rattle.std.proofs.lemmas.List.Sorted.{answers_always}
-use Rattle.op_grant.specs.Tokens.{AreRising, grant_at, IsTokenAt}
+use Rattle.op_grant.specs.Tokens.{AreRising}
 use Rattle.op_grant.proofs.TokenLists.{searched_tokens}
 use Rattle.op_grant.proofs.tokens.Tokens.position.Goals as goal
 

@@ -1,6 +1,5 @@
 use Rattle.std.proofs.Common.{sym, subst, ◌<◌}
 use Rattle.std.specs.Prelude.{All}
-use Rattle.op_grant.specs.Tokens.{AreRising}
 use Rattle.op_grant.proofs.TokenLists.{rising-append}
 use Rattle.op_grant.proofs.tokens.Tokens.push.Goals as goal
 

@@ -1,5 +1,5 @@
-use Rattle.std.proofs.Common.{ap, sym, subst, ◌∙◌, arith}
-use Rattle.op_grant.specs.Tokens.{AreRising, grant_at, IsTokenAt, left}
+use Rattle.std.proofs.Common.{ap, sym, subst, ◌∙◌}
+use Rattle.op_grant.specs.Tokens.{IsTokenAt, left}
 use Rattle.op_grant.proofs.TokenLists.{rising-left, removed_is_left, left_without}
 use Rattle.op_grant.proofs.tokens.Tokens.remove.Goals as goal
 

@@ -1,4 +1,4 @@
-use Rattle.std.proofs.Common.{◌≡◌, ap, sym, ◌∙◌, Some, None}
+use Rattle.std.proofs.Common.{◌≡◌, ap, ◌∙◌}
 use Rattle.op_grant.specs.Tokens.{left}
 use Rattle.op_grant.proofs.tokens.Tokens.take_away.Goals as goal
 
