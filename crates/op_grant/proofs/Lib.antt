@@ -2,6 +2,7 @@ pub mod Changes
 pub mod Counters
 pub mod Finding
 pub mod Indexing
+pub mod IntervalTexts
 pub mod LimitFacts
 pub mod Numbered
 pub mod SecretLaw
