@@ -46,7 +46,3 @@ interval_readable items l text all e f =
 pub interval_there : (items : List Item) (t : ℕ) (interval : Interval) (place : Place) → Some interval ≡ repeats items → place ≡ place_of interval t → inside place ≡ interval_at items t
 interval_there items t interval place e f =
     ap inside f ∙ ap (λ o. option_map_or (λ i. inside (place_of i t)) o (Some 0)) e
-
-pub first_true : (p q : Bool) → cond p q false ≡ true → p ≡ true
-first_true true q h = refl
-first_true false q h = h

@@ -2,7 +2,6 @@
 use Rattle.std.specs.Prelude.{ℕ, ◌+◌, Bool, true, false, not, ◌==◌, nat_lt, if◌then◌else◌, List, Some, Ok, Err}
 use Rattle.std.specs.List.{list_all}
 use Rattle.std.specs.Option.{option_map_or, option_and_then, is_some}
-use Rattle.std.specs.Str.{is_utf8}
 use Rattle.std.specs.declared.result.Result.{Result}
 use Rattle.op_time.specs.Texts.{interval_of}
 use Rattle.op_model.specs.Grants.{cap_of, limits_of, interval_at}
@@ -50,7 +49,7 @@ covers_spending value n j v = option_map_or (λ cap. not (passes_cap (spent_in v
 
 -- a text that is read as an interval
 abbrev pub is_readable : List ℕ → Bool
-is_readable text = if is_utf8 text then is_some (interval_of text) else false
+is_readable text = is_some (interval_of text)
 
 abbrev pub has_readable_limits : Item → Bool
 has_readable_limits item = option_map_or (λ limits. option_map_or is_readable limits.interval true) item.limits true
