@@ -1,18 +1,19 @@
 -- Whether a payment may spend.
 use Rattle.std.proofs.Common.{◌≡◌, ℕ, ◌-◌, Bool, true, false, cond, List, [], ◌∷◌, refl, sym, ap, ◌∙◌, Ok, Err}
-use Rattle.std.specs.Prelude.{Some, None, if◌then◌else◌, unwrap_or}
-use Rattle.std.specs.Option.{option_map_or}
+use Rattle.std.specs.Prelude.{Some, None, not, if◌then◌else◌, unwrap_or}
+use Rattle.std.specs.Option.{option_map_or, option_and_then}
 use Rattle.std.specs.Map.{lookup, set_value}
 use Rattle.std.specs.BTreeMap.{is_at}
 use Rattle.std.specs.declared.option.Option.{Option}
 use Rattle.std.specs.declared.result.Result.{Result}
+use Rattle.op_model.specs.History.{nth}
 use Rattle.op_model.specs.Grants.{cap_of, interval_at}
 use Rattle.op_model.specs.declared.grant.Cap.{Cap}
 use Rattle.op_model.specs.declared.grant.Item.{Item}
 use Rattle.op_model.specs.declared.grant.Sum.{Sum}
 use Rattle.op_model.specs.declared.row.GrantRow.{GrantRow}
-use Rattle.op_grant.specs.Value.{GrantsValue, by_grant, spent_in, spent_less}
-use Rattle.op_grant.specs.Limits.{counted, is_other_receiver, is_other_asset, passes_cap, within_cap, may_spend_answer}
+use Rattle.op_grant.specs.Value.{GrantsValue, by_grant, cap_in, spent_in, spent_less}
+use Rattle.op_grant.specs.Limits.{counted, is_other_receiver, is_other_asset, passes_cap, within_cap, may_spend_answer, covers_spending}
 use Rattle.op_grant.specs.declared.fault.GrantFault.{GrantFault}
 use Rattle.op_grant.specs.declared.fault.GrantFault.TheVariants as faults
 use Rattle.op_grant.proofs.Changes.{grants_of}
@@ -63,3 +64,33 @@ pub nothing_given_back : (value : GrantsValue) (rows : List GrantRow) (counters 
     → None ≡ lookup (is_at (by_grant (n, j))) counters → after ≡ counters → grants_of rows after ≡ spent_less value n j v
 nothing_given_back value rows counters after n j v view found is =
     ap (grants_of rows) (is ∙ sym (set_value_none (is_at (by_grant (n, j))) counters (spent_in (grants_of rows counters) n j - v) (sym found))) ∙ ap (λ w. spent_less w n j v) view
+
+-- ---- what may be spent is covered
+
+taken_step : (b : Bool) (fault : GrantFault) (rest : Answer) (j : ℕ) → (if b then Err fault else rest) ≡ Ok j → rest ≡ Ok j
+taken_step true fault rest j h = absurd (let e : Err fault ≡ Ok j = h in cc)
+taken_step false fault rest j h = h
+
+within_step : (b : Bool) (spent k j : ℕ) → (if b then Err (faults.OverLimit spent) else Ok k) ≡ Ok j → (b ≡ false) × (k ≡ j)
+within_step true spent k j h = absurd (let e : Err (faults.OverLimit spent) ≡ Ok j = h in cc)
+within_step false spent k j h = (refl, let e : Ok k ≡ Ok j = h in cc)
+
+inside_step : (value : GrantsValue) (n j : ℕ) (debit receive : Sum) (items : List Item) (cap : Cap) (o : Option ℕ) → cap_of items ≡ Some cap
+    → option_map_or (within_cap value n debit receive items) o (Err faults.OutsideInterval) ≡ Ok j → passes_cap (spent_in value n j) (counted debit receive cap).value cap ≡ false
+inside_step value n j debit receive items cap None is h = absurd (let e : Err faults.OutsideInterval ≡ Ok j = h in cc)
+inside_step value n j debit receive items cap (Some k) is h =
+    let parts = within_step (option_map_or (λ c. passes_cap (spent_in value n k) (counted debit receive c).value c) (cap_of items) false) (spent_in value n k) k j h in
+    ap (λ i. passes_cap (spent_in value n i) (counted debit receive cap).value cap) (sym parts.1)
+    ∙ ap (λ o. option_map_or (λ c. passes_cap (spent_in value n k) (counted debit receive c).value c) o false) (sym is) ∙ parts.0
+
+covered_step : (value : GrantsValue) (n j v : ℕ) (cap : Cap) (o : Option Cap) → o ≡ Some cap → passes_cap (spent_in value n j) v cap ≡ false → option_map_or (λ c. not (passes_cap (spent_in value n j) v c)) o true ≡ true
+covered_step value n j v cap o is h = ap (λ p. option_map_or (λ c. not (passes_cap (spent_in value n j) v c)) p true) is ∙ ap not h
+
+-- where a payment may spend, the cap covers what it counts
+pub may_be_spent : (value : GrantsValue) (n t receiver j : ℕ) (debit receive : Sum) (row : GrantRow) (cap : Cap) → nth value.rows n ≡ Some row → cap_of row.items ≡ Some cap
+    → may_spend_answer value n t receiver debit receive row ≡ Ok j → covers_spending value n j (counted debit receive cap).value ≡ true
+may_be_spent value n t receiver j debit receive row cap there is may =
+    let rest = taken_step (is_other_receiver row.items receiver) faults.LimitReceiver _ j may in
+    let last = taken_step (option_map_or (is_other_asset debit receive) (cap_of row.items) false) faults.LimitAsset _ j rest in
+    covered_step value n j (counted debit receive cap).value cap (cap_in value n) (ap (option_and_then (λ r. cap_of r.items)) there ∙ is)
+    (inside_step value n j debit receive row.items cap (interval_at row.items t) is last)

@@ -20,7 +20,7 @@ use Rattle.op_grant.specs.declared.fault.GrantFault.TheVariants as faults
 use Rattle.op_grant.specs.declared.fault.Proceeded.{Proceeded}
 use Rattle.op_grant.specs.declared.fault.Proceeded.TheVariants as proceeded
 
--- what a call gives by row n
+-- what a call gives by row n, which it asks to be there
 abbrev pub at_row : {X : Type 0} → (GrantRow → Result X GrantFault) → GrantsValue → ℕ → Result X GrantFault
 at_row answer value n = option_map_or answer (nth value.rows n) (Err faults.Memory)
 

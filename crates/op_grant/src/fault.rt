@@ -14,8 +14,8 @@ pub enum Proceeded {
     Polled,
 }
 
-/// Why a call on a grant is refused. The codes of the first five, and of `InvalidContinuation`, are those of RFC 9635,
-/// section 3.6; all others are this project's own.
+/// Why a call on a grant is refused. The first five have codes of RFC 9635, section 3.6; all others are this project's
+/// own.
 #[derive(Clone, Copy, Debug, PartialEq, Eq)]
 pub enum GrantFault {
     /// An interaction is needed and not offered, or its reference is not the one that was drawn.

@@ -6,13 +6,12 @@ ghost use Rattle.op_model.specs.Grants.{limits_of, cap_of, repeats, interval_at,
 ghost use Rattle.op_grant.specs.Limits.{counted, is_other_receiver, is_other_asset, passes_cap, are_readable, is_readable};
 ghost use Rattle.op_time.specs.Texts.{interval_of};
 
+use crate::rows::OUTGOING;
 use op_model::{Cap, IntervalText, Item, Limits, Sum};
 use op_time::{Interval, Moment, Place, read_interval};
 use std::str;
 
-/// The type of items for outgoing payments, which alone have limits.
-const OUTGOING: u8 = 3;
-
+// Items for outgoing payments alone have limits.
 fn limits_of(items: &[Item]) -> Option<&Limits>
     ensures { option_copied result ≡ limits_of items.now }
 {

@@ -13,7 +13,7 @@ use op_names::{Letter, SecretText, secret_text};
 use op_time::Moment;
 
 /// The type of items for outgoing payments, for which the provider is asked.
-const OUTGOING: u8 = 3;
+pub(crate) const OUTGOING: u8 = 3;
 
 /// How long a client waits before it polls again, in milliseconds (RFC 9635, section 3.1).
 const POLL_WAIT: u64 = 5_000;
