@@ -3,13 +3,15 @@ use Rattle.std.proofs.Common.{◌≡◌, ◌≢◌, ℕ, suc, ◌+◌, ◌^◌, 
 use Rattle.std.specs.Prelude.{Some, None, All, ◌||◌, ◌==◌, slice_get}
 use Rattle.std.specs.List.{position_from}
 use Rattle.std.specs.Option.{option_map, option_map_or}
+use Rattle.std.specs.declared.option.Option.{Option}
 use Rattle.std.specs.declared.result.Result.{Result}
 use Rattle.std.proofs.lemmas.Option.{slice_get-get_or}
 use Rattle.op_names.specs.Secrets.{secret_text, IsDrawn}
 use Rattle.op_names.specs.declared.Letter.{Letter}
 use Rattle.op_names.specs.declared.Letter.TheVariants.{Access, Continuation, Interaction}
+use Rattle.op_names.proofs.Choices.{same_bytes}
 use Rattle.op_model.specs.History.{nth, with_item, changed_at, number_of}
-use Rattle.op_model.specs.Grants.{is_immediate, current_token, live_token, is_cancelled}
+use Rattle.op_model.specs.Grants.{is_immediate, current_token, live_token, is_cancelled, is_secret}
 use Rattle.op_model.specs.GrantAnswers.{is_pending}
 use Rattle.op_model.specs.declared.row.GrantRow.{GrantRow}
 use Rattle.op_model.specs.declared.row.GrantState.{GrantState}
@@ -25,7 +27,7 @@ use Rattle.op_grant.specs.Runs.{Drawing, IsDrawing, Call, CanCall, AreCalls, aft
 use Rattle.op_grant.specs.Runs.Call.{Requested, Decided, Continued, Cancelled, Rotated, Revoked, Spent, GivenBack}
 use Rattle.op_grant.proofs.Finding.{current_access, live_current, live_is, is_live, false_where}
 use Rattle.op_grant.proofs.Indexing.{number_cases, access_before}
-use Rattle.op_grant.proofs.Numbered.{nth-with_item, nth-changed, nth-other, nth-last, nth_either, nth-map, of_map, number_of_none}
+use Rattle.op_grant.proofs.Numbered.{nth-with_item, nth-changed, nth-other, nth-last, nth_either, nth-map, of_map, number_of_none, number_of_only}
 use Rattle.op_grant.proofs.SecretLaw.{HaveSecrets, not_drawn, new_at, reference_before, continuation_before, secrets_calls, no_secrets}
 use Rattle.op_grant.proofs.SpendingLaw.{there_of, rows_stay}
 
@@ -288,3 +290,16 @@ one_live value t n token other h g =
     let b = number_found (is_live t other) value.rows n g in
     let same : a.0 ≡ b.0 = some_is a.0 b.0 (sym a.1 ∙ b.1) in
     some_is token other (sym (live_is t a.0 token a.2) ∙ ap (live_token t) same ∙ live_is t b.0 other b.2)
+
+-- ---- a live token is found
+
+secret_itself : (o : Option (List ℕ)) (text : List ℕ) → o ≡ Some text → is_secret o text ≡ true
+secret_itself o text is = ap (λ p. is_secret p text) is ∙ same_bytes text text refl
+
+pub live_found : (calls : List Call) (n t : ℕ) (row : GrantRow) (token : List ℕ) → AreCalls no_grants calls → nth (after_calls no_grants calls).rows n ≡ Some row
+    → live_token t row ≡ Some token → grant_of_live (after_calls no_grants calls) t token ≡ Some n
+live_found calls n t row token can there live =
+    let rows = (after_calls no_grants calls).rows in
+    let secrets = secrets_calls no_grants calls can no_secrets in
+    number_of_only (is_live t token) rows n row there (secret_itself (live_token t row) token live)
+    (λ k other o l. only_row token rows n k row other secrets there (live_current t row token live) o (live_current t other token (live_is t other token l)))

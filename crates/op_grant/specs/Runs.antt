@@ -3,7 +3,7 @@ use Rattle.std.specs.Prelude.{ℕ, ◌≡◌, ◌+◌, ◌^◌, ◌<◌, ◌≤�
 use Rattle.std.specs.declared.option.Option.{Option}
 use Rattle.op_names.specs.Secrets.{IsDrawn}
 use Rattle.op_model.specs.History.{nth}
-use Rattle.op_model.specs.Grants.{current_token}
+use Rattle.op_model.specs.Grants.{current_token, live_token}
 use Rattle.op_model.specs.declared.grant.Asked.{Asked}
 use Rattle.op_model.specs.declared.grant.Cap.{Cap}
 use Rattle.op_model.specs.declared.row.GrantRow.{GrantRow}
@@ -112,6 +112,12 @@ abbrev pub OneLiveToken : Type 0
 OneLiveToken =
     (value : GrantsValue) (t n : ℕ) (token other : List ℕ) → grant_of_live value t token ≡ Some n → grant_of_live value t other ≡ Some n
     → token ≡ other
+
+-- behind any list of calls on no grants, a live token is found as its grant's
+abbrev pub LiveTokensAreFound : Type 0
+LiveTokensAreFound =
+    (calls : List Call) (n t : ℕ) (row : GrantRow) (token : List ℕ) → AreCalls no_grants calls → nth (after_calls no_grants calls).rows n ≡ Some row
+    → live_token t row ≡ Some token → grant_of_live (after_calls no_grants calls) t token ≡ Some n
 
 -- a call that ends the current token of grant n
 abbrev pub Ends : ℕ → Call → Type 0

@@ -1,6 +1,6 @@
 //! The laws of calls on grants.
 
-ghost use Rattle.op_grant.specs.Runs.{SpendingIsSum, SecretsAreApart, OneLiveToken, EndedTokensAreGone};
+ghost use Rattle.op_grant.specs.Runs.{SpendingIsSum, SecretsAreApart, OneLiveToken, LiveTokensAreFound, EndedTokensAreGone};
 
 /// Behind any list of calls on no grants, what was spent in an interval of a grant with a cap is the sum of what was
 /// spent there, less what was given back, and it never passes the cap. For a grant without a cap nothing is counted.
@@ -17,6 +17,11 @@ pub fn secrets_are_apart()
 /// A grant has at most one live access token.
 pub fn one_live_token()
     ensures { OneLiveToken }
+{}
+
+/// Behind any list of calls on no grants, a live access token is found, as its grant's.
+pub fn live_tokens_are_found()
+    ensures { LiveTokensAreFound }
 {}
 
 /// A token that was rotated or revoked, or whose grant was cancelled, is never found again, whatever calls follow.

@@ -12,7 +12,10 @@ mod tokens;
 
 pub use fault::{GrantFault, Proceeded};
 pub use grants::Grants;
-pub use laws::{ended_tokens_are_gone, one_live_token, secrets_are_apart, spending_is_sum};
+pub use laws::{
+    ended_tokens_are_gone, live_tokens_are_found, one_live_token, secrets_are_apart,
+    spending_is_sum,
+};
 pub use op_model::{
     Asked, Cap, Finish, GrantRow, GrantState, Interact, IntervalText, Item, Limits, Rows, Sum,
 };
