@@ -1,5 +1,5 @@
 -- A text that names an interval is ASCII.
-use Rattle.std.proofs.Common.{◌≡◌, ◌≢◌, ℕ, zero, suc, ◌+◌, ◌-◌, ◌<◌, ◌≤◌, Bool, true, false, cond, List, [], ◌∷◌, ◌++◌, length, take, drop, get_or, refl, sym, ap, subst, ◌∙◌, arith, tests, codes, ⊎_elim, ◌⊎◌, inl, inr, Ok, Err}
+use Rattle.std.proofs.Common.{◌≡◌, ℕ, zero, suc, ◌+◌, ◌<◌, ◌≤◌, Bool, true, false, cond, List, [], ◌∷◌, length, take, drop, get_or, refl, sym, ap, subst, arith, codes, ⊎_elim, ◌⊎◌, inl, inr, Err}
 use Rattle.std.specs.Prelude.{Some, None, ◌&&◌, ◌||◌, ◌==◌, not, nat_lt, nat_le, option_and_then, ok_or}
 use Rattle.std.specs.List.{list_all, list_any, zip, position_or_len, prefix_len, before_first, after_first}
 use Rattle.std.specs.Char.{is_ascii_digit}
@@ -15,13 +15,13 @@ use Rattle.std.proofs.lemmas.Bool.Decides.{nat_tests}
 use Rattle.std.proofs.lemmas.List.{take-append-drop, drop-drop}
 use Rattle.std.proofs.lemmas.Str.{IsAscii-append, IsUtf8-from_ascii}
 use Rattle.op_time.specs.Digits.{digits_of, fits, fits_byte}
-use Rattle.op_time.specs.MomentTexts.{moment_of, moment_in, has_shape, clock_of, fraction_of, zone_of, is_fraction, is_zone, moment_with}
+use Rattle.op_time.specs.MomentTexts.{moment_of, has_shape, clock_of, zone_of, is_fraction, is_zone}
 use Rattle.op_time.specs.Interval.{Interval}
 use Rattle.op_time.specs.declared.intervals.IntervalFault.{IntervalFault}
 use Rattle.op_time.specs.declared.intervals.IntervalFault.TheVariants as faults
 use Rattle.op_time.specs.declared.moments.MomentFault.{MomentFault}
 use Rattle.op_time.specs.declared.moments.MomentFault.TheVariants.{Shape}
-use Rattle.op_time.specs.Texts.{◌>>?◌, part, parts, weeks_in, times_in, calendar_in, parts_in, duration_of, is_count, count_of, head_of, tail_of, has_parts, interval_of_parts, interval_in, interval_of}
+use Rattle.op_time.specs.Texts.{◌>>?◌, part, parts, weeks_in, times_in, calendar_in, parts_in, duration_of, is_count, count_of, head_of, tail_of, has_parts, interval_of_parts, interval_of}
 
 -- ---- lists of bytes below 128
 
