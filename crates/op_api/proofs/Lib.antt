@@ -1,0 +1,4 @@
+mod IdTexts
+mod Joined
+mod Joint
+mod Tables

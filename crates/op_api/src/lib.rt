@@ -1,0 +1,8 @@
+//! JSON both ways: replies as bytes.
+#![tactic(auto)]
+
+mod fields;
+mod said;
+mod values;
+
+pub use values::Json;
