@@ -1,3 +1,4 @@
 pub mod Fields
+pub mod Printable
 pub mod Said
 pub mod Values

@@ -2,6 +2,7 @@
 #![tactic(auto)]
 
 mod fields;
+mod refusals;
 mod said;
 mod values;
 
