@@ -18,6 +18,7 @@ use Rattle.op_api.specs.declared.fields.Field.TheVariants as field
 abbrev pub field_data : Field → Option Data
 field_data (field.Flag flag) = Some (boolean flag)
 field_data (field.Number n) = Some (whole n)
+field_data (field.Small n) = Some (whole n)
 field_data (field.Digits n) = Some (digits n)
 field_data (field.DigitsIf n) = option_map digits n
 field_data (field.Word word) = Some (string word.now)

@@ -19,6 +19,8 @@ use std::alloc::{AllocError, Global};
 pub enum Field<'a> {
     Flag(bool),
     Number(u64),
+    /// A small number, as a scale.
+    Small(u8),
     /// A number as a text of digits.
     Digits(u64),
     DigitsIf(Option<u64>),
@@ -54,6 +56,7 @@ fn value_of(alloc: Global, field: &Field<'_>) -> Result<Option<Json>, AllocError
     Ok(Some(match *field {
         Field::Flag(flag) => Json::flag(flag),
         Field::Number(number) => Json::number(number),
+        Field::Small(number) => Json::number(u64::from(number)),
         Field::Digits(number) => Json::digits(alloc, number)?,
         Field::DigitsIf(Some(number)) => Json::digits(alloc, number)?,
         Field::DigitsIf(None) => return Ok(None),

@@ -1,9 +1,12 @@
 //! JSON both ways: replies as bytes.
 #![tactic(auto)]
 
+mod admin;
 mod fields;
+mod print;
 mod refusals;
+mod replies;
 mod said;
 mod values;
 
-pub use values::Json;
+pub use print::print_reply;

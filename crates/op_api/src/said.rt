@@ -1,6 +1,6 @@
 //! What replies say: a status, fields and a body.
 ghost use Rattle.std.specs.Prelude.{◌≡◌, Some, None, IfOk};
-ghost use Rattle.op_model.specs.Printed.{telling, ok as ok_said, created as created_said};
+ghost use Rattle.op_model.specs.Printed.{telling, ok as ok_said, created as created_said, no_content};
 ghost use Rattle.op_api.specs.Values.{data_of};
 ghost use Rattle.op_api.specs.Said.{said_of};
 
@@ -43,5 +43,17 @@ impl<'a> Said<'a> {
         ensures { said_of result ≡ created_said (data_of body) }
     {
         Said::telling("201 Created", body)
+    }
+
+    /// Nothing is told.
+    pub fn gone() -> Said<'a>
+        ensures { said_of result ≡ no_content }
+    {
+        Said {
+            status: "204 No Content",
+            allow: None,
+            challenge: None,
+            body: None,
+        }
     }
 }

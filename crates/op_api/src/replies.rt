@@ -1,0 +1,63 @@
+//! What each reply says.
+ghost use Rattle.std.specs.Prelude.{◌≡◌, Some, IfOk};
+ghost use Rattle.op_model.specs.Printed.{said as said_of_reply};
+ghost use Rattle.op_api.specs.Printable.{IsPrintable};
+ghost use Rattle.op_api.specs.Values.{data_of};
+ghost use Rattle.op_api.specs.Said.{said_of};
+
+use crate::admin;
+use crate::refusals::refusal_said;
+use crate::said::Said;
+use op_model::{Reply, ReplyBody};
+use std::alloc::{AllocError, Global};
+
+/// What a reply says: one row for each form.
+pub fn said(alloc: Global, reply: &Reply) -> Result<Said<'_>, AllocError>
+    requires { IsPrintable reply.now }
+    ensures { IfOk result (λ said. Some (said_of said) ≡ said_of_reply reply.now.origin reply.now.body) }
+{
+    let origin = &reply.origin;
+    match &reply.body {
+        ReplyBody::OriginSet { origin: set } => Ok(Said::ok(admin::origin(alloc, set)?)),
+        ReplyBody::AssetAdded { asset, pieces } => {
+            Ok(Said::created(admin::asset_added(alloc, asset, *pieces)?))
+        }
+        ReplyBody::AssetRead {
+            asset,
+            pieces,
+            pool,
+            fees,
+            total,
+        } => { Ok(Said::ok(admin::asset_read(alloc, asset, *pieces, *pool, *fees, *total)?)) }
+        ReplyBody::AddressAdded { number, address } => {
+            Ok(Said::created(admin::address_added(alloc, origin, *number, address)?))
+        }
+        ReplyBody::AddressRead {
+            number,
+            path,
+            available,
+            posted,
+        } => {
+            Ok(Said::ok(admin::address_read(alloc, origin, *number, path, *available, *posted)?))
+        }
+        ReplyBody::Moved {
+            transfer,
+            account,
+            amount,
+        } => { Ok(Said::created(admin::moved(alloc, origin, transfer, account, amount)?)) }
+        ReplyBody::RateSet {
+            source,
+            target,
+            rate,
+        } => { Ok(Said::ok(admin::rate(alloc, source, target, rate)?)) }
+        ReplyBody::PaymentRead { number, payment } => {
+            Ok(Said::ok(admin::payment(alloc, *number, payment)?))
+        }
+        ReplyBody::AddressFound { address } => {
+            Ok(Said::ok(admin::address_found(alloc, origin, address)?))
+        }
+        ReplyBody::Gone => Ok(Said::gone()),
+        ReplyBody::Refused(refusal) => refusal_said(alloc, origin, refusal),
+        _ => unreachable!(),
+    }
+}
