@@ -1,4 +1,7 @@
+mod AsciiTexts
 mod IdTexts
 mod Joined
 mod Joint
+mod Lists
+mod Objects
 mod Tables

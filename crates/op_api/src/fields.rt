@@ -1,16 +1,18 @@
 //! What stands in the members of a reply, and objects from tables of members.
-ghost use Rattle.std.specs.Prelude.{◌≡◌, false, IfOk, IfSome, IsTrue, OnOk, option_map};
+ghost use Rattle.std.specs.Prelude.{◌≡◌, false, IfOk, IfSome, IsTrue, OnOk, ◌++◌, map, filter_map, option_map};
+ghost use Rattle.std.specs.Option.{option_to_list};
 ghost use Rattle.serde_json.specs.Data.{string, object as object_data};
-ghost use Rattle.op_model.specs.Bodies.{account_text, state_text, reason_text};
+ghost use Rattle.op_model.specs.Bodies.{account_text, state_text, reason_text, type_text};
 ghost use Rattle.serde_json.specs.View.{members_view};
 ghost use Rattle.serde_json.specs.Written.{has_float, members_have_float};
 ghost use Rattle.op_api.specs.Values.{data_of};
-ghost use Rattle.op_api.specs.Fields.{field_data, members_data, put_if as with_member, IsText, IsAccountText, AreTexts, is_ascending};
+ghost use Rattle.op_api.specs.Fields.{field_data, members_data, put_if as with_member, IsText, IsAccountText, AreTexts, is_ascending, named_action};
 
 use crate::values::Json;
 use op_amount::{Amount, Asset, AssetCode};
-use op_model::{AccountShown, PaymentState, Text};
-use op_names::{AddressPath, Kind, Origin};
+use op_model::{AccountShown, IntervalText, PaymentState, Text};
+use op_names::{AddressPath, Kind, Origin, SecretText};
+use op_time::Moment;
 use serde_json::{Map, Value, put};
 use std::alloc::{AllocError, Global};
 
@@ -21,6 +23,7 @@ pub enum Field<'a> {
     Number(u64),
     /// A small number, as a scale.
     Small(u8),
+    SmallIf(Option<u8>),
     /// A number as a text of digits.
     Digits(u64),
     DigitsIf(Option<u64>),
@@ -29,15 +32,24 @@ pub enum Field<'a> {
     Told(&'a Text),
     /// The member is left out where there is no text.
     ToldIf(&'a Option<Text>),
+    Secret(&'a SecretText),
+    SecretIf(&'a Option<SecretText>),
+    IntervalIf(&'a Option<IntervalText>),
     Origin(&'a Origin),
     Code(&'a AssetCode),
     Asset(&'a Asset),
     Amount(&'a Amount),
     AmountIf(&'a Option<Amount>),
+    /// A value and how many digits stand behind its point.
+    Scaled(u64, u8),
+    Moment(Moment),
     Id(Kind, u64),
+    IdIf(Kind, Option<u64>),
     AddressUrl(&'a Origin, &'a AddressPath),
+    AddressUrlIf(&'a Origin, &'a Option<AddressPath>),
     /// An origin, a directory as `/quotes/`, and the identifier of a row.
     RowUrl(&'a Origin, &'static str, Kind, u64),
+    RowUrlIf(&'a Origin, &'static str, Kind, Option<u64>),
     /// The grant endpoint of an origin.
     GrantUrl(&'a Origin),
     /// An account; that of an address by its URL under an origin.
@@ -45,6 +57,13 @@ pub enum Field<'a> {
     State(PaymentState),
     /// Why a payment failed, by its number; the member is left out where it did not.
     Reason(u8),
+    /// The names of the actions in a sum of bits.
+    Actions(u8),
+    /// The type of an item of a grant, by its number.
+    ItemType(u8),
+    /// The empty list.
+    NoItems,
+    JsonIf(&'a Option<Json>),
     Json(&'a Json),
 }
 
@@ -57,22 +76,34 @@ fn value_of(alloc: Global, field: &Field<'_>) -> Result<Option<Json>, AllocError
         Field::Flag(flag) => Json::flag(flag),
         Field::Number(number) => Json::number(number),
         Field::Small(number) => Json::number(u64::from(number)),
+        Field::SmallIf(Some(number)) => Json::number(u64::from(number)),
         Field::Digits(number) => Json::digits(alloc, number)?,
         Field::DigitsIf(Some(number)) => Json::digits(alloc, number)?,
-        Field::DigitsIf(None) => return Ok(None),
         Field::Word(word) => Json::string(alloc, word)?,
         Field::Told(text) => Json::bytes(alloc, text.bytes())?,
         Field::ToldIf(Some(text)) => Json::bytes(alloc, text.bytes())?,
-        Field::ToldIf(None) => return Ok(None),
+        Field::Secret(text) => Json::bytes(alloc, text.as_bytes())?,
+        Field::SecretIf(Some(text)) => Json::bytes(alloc, text.as_bytes())?,
+        Field::IntervalIf(Some(text)) => Json::bytes(alloc, text.bytes())?,
         Field::Origin(origin) => Json::bytes(alloc, origin.as_bytes())?,
         Field::Code(code) => Json::string(alloc, code.as_str())?,
         Field::Asset(asset) => Json::asset(alloc, asset)?,
         Field::Amount(amount) => Json::amount(alloc, amount)?,
         Field::AmountIf(Some(amount)) => Json::amount(alloc, amount)?,
-        Field::AmountIf(None) => return Ok(None),
+        Field::Scaled(value, scale) => Json::scaled(alloc, value, scale)?,
+        Field::Moment(moment) => Json::moment(alloc, moment)?,
         Field::Id(kind, number) => Json::id(alloc, kind, number)?,
+        Field::IdIf(kind, Some(number)) => Json::id(alloc, kind, number)?,
         Field::AddressUrl(origin, path) => Json::under(alloc, origin.as_bytes(), path.bytes())?,
+        Field::AddressUrlIf(origin, Some(path)) => Json::under(
+            alloc,
+            origin.as_bytes(),
+            path.bytes(),
+        )?,
         Field::RowUrl(origin, directory, kind, number) => {
+            Json::row_url(alloc, origin.as_bytes(), directory, kind, number)?
+        }
+        Field::RowUrlIf(origin, directory, kind, Some(number)) => {
             Json::row_url(alloc, origin.as_bytes(), directory, kind, number)?
         }
         Field::GrantUrl(origin) => Json::under(alloc, origin.as_bytes(), b"/grant")?,
@@ -82,7 +113,20 @@ fn value_of(alloc: Global, field: &Field<'_>) -> Result<Option<Json>, AllocError
             Some(text) => Json::string(alloc, text)?,
             None => return Ok(None),
         },
-        Field::Json(json) => json.clone()?,
+        Field::Actions(actions) => Json::list(alloc, action_values(alloc, actions, &ACTIONS)?)?,
+        Field::ItemType(kind) => Json::string(alloc, type_text(kind))?,
+        Field::NoItems => Json::list(alloc, Vec::new(alloc))?,
+        Field::JsonIf(Some(json)) | Field::Json(json) => json.clone()?,
+        Field::SmallIf(None)
+        | Field::DigitsIf(None)
+        | Field::ToldIf(None)
+        | Field::SecretIf(None)
+        | Field::IntervalIf(None)
+        | Field::AmountIf(None)
+        | Field::IdIf(_, None)
+        | Field::AddressUrlIf(_, None)
+        | Field::RowUrlIf(_, _, _, None)
+        | Field::JsonIf(None) => return Ok(None),
     }))
 }
 
@@ -116,6 +160,57 @@ fn reason_text(reason: u8) -> Option<&'static str>
         2 => Some("receiver_closed"),
         3 => Some("cancelled"),
         _ => None,
+    }
+}
+
+/// The actions, each by its bit and its name.
+const ACTIONS: [(u8, &str); 6] = [
+    (1, "create"),
+    (2, "complete"),
+    (4, "read"),
+    (8, "read-all"),
+    (16, "list"),
+    (32, "list-all"),
+];
+
+/// An action's name, where its bit is in a sum.
+fn action_value(alloc: Global, actions: u8, name: &(u8, &str)) -> Result<Option<Json>, AllocError>
+    ensures { IfOk result (λ json. option_map data_of json ≡ named_action actions name.now) }
+{
+    if actions & name.0 == 0 {
+        Ok(None)
+    } else {
+        Ok(Some(Json::string(alloc, name.1)?))
+    }
+}
+
+fn push_if(values: &mut Vec<Json>, json: Option<Json>) -> Result<(), AllocError>
+    ensures { OnOk result (map data_of values.new.items ≡ map data_of values.old.items ++ option_to_list (option_map data_of json)) }
+{
+    if let Some(json) = json {
+        values.push(json)?;
+    }
+    Ok(())
+}
+
+/// The names of those actions whose bit is in a sum.
+fn action_values(alloc: Global, actions: u8, names: &[(u8, &str)]) -> Result<Vec<Json>, AllocError>
+    ensures { IfOk result (λ values. map data_of values.items ≡ filter_map (named_action actions) names.now) }
+{
+    let mut values = Vec::new(alloc);
+    for name in names {
+        push_if(&mut values, action_value(alloc, actions, name)?)?;
+    }
+    Ok(values)
+}
+
+fn type_text(kind: u8) -> &'static str
+    ensures { result.now ≡ type_text kind }
+{
+    match kind {
+        1 => "incoming-payment",
+        2 => "quote",
+        _ => "outgoing-payment",
     }
 }
 

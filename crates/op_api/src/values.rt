@@ -1,13 +1,17 @@
 //! JSON values with one printed form.
-ghost use Rattle.std.specs.Prelude.{◌≡◌, ◌++◌, false, IfOk};
+ghost use Rattle.std.specs.Prelude.{◌≡◌, ◌++◌, false, map, IfOk};
 ghost use Rattle.std.specs.Str.{IsUtf8};
 ghost use Rattle.serde_json.specs.Data.{boolean, string};
 ghost use Rattle.serde_json.specs.View.{view};
 ghost use Rattle.serde_json.specs.Written.{compact_text, has_float};
-ghost use Rattle.op_model.specs.Bodies.{whole, digits, amount_data, asset_data, id};
+ghost use Rattle.op_amount.specs.Scaled.{scaled};
+ghost use Rattle.op_time.specs.MomentTexts.{moment_text};
+ghost use Rattle.op_model.specs.Bodies.{whole, digits, amount_data, asset_data, metadata_data, list, id};
 
-use op_amount::{Amount, Asset};
+use op_amount::{Amount, Asset, print_scaled};
+use op_model::MetaText;
 use op_names::{Id, Kind, id_text};
+use op_time::{Moment, print_moment};
 use serde_json::{Value, json};
 use std::alloc::{AllocError, Global};
 use std::str;
@@ -102,6 +106,51 @@ impl Json {
         ensures { IfOk result (λ json. data_of json ≡ string (id kind number)) }
     {
         Json::bytes(alloc, &id_text(Id { kind, number }))
+    }
+
+    /// A moment in UTC with milliseconds (RFC 3339).
+    pub fn moment(alloc: Global, moment: Moment) -> Result<Json, AllocError>
+        ensures { IfOk result (λ json. data_of json ≡ string (moment_text moment)) }
+    {
+        Json::bytes(alloc, &print_moment(moment))
+    }
+
+    /// A value as a decimal text with this many digits behind the point.
+    pub fn scaled(alloc: Global, value: u64, scale: u8) -> Result<Json, AllocError>
+        ensures { IfOk result (λ json. data_of json ≡ string (scaled value scale)) }
+    {
+        let mut text = Vec::new(alloc);
+        print_scaled(alloc, value, scale, &mut text)?;
+        Json::bytes(alloc, &text)
+    }
+
+    /// Metadata is a printed object already.
+    pub fn metadata(alloc: Global, text: &MetaText) -> Result<Json, AllocError>
+        ensures { IfOk result (λ json. data_of json ≡ metadata_data text.now) }
+    {
+        match Value::from_slice(alloc, text.bytes()) {
+            Ok(value) => Ok(Json { value }),
+            Err(error) => {
+                if error.is_memory() {
+                    Err(AllocError)
+                } else {
+                    unreachable!()
+                }
+            }
+        }
+    }
+
+    /// The list of these values.
+    pub fn list(alloc: Global, values: Vec<Json>) -> Result<Json, AllocError>
+        ensures { IfOk result (λ json. data_of json ≡ list (map data_of values.items)) }
+    {
+        let mut items = Vec::new(alloc);
+        for json in values {
+            items.push(json.value)?;
+        }
+        Ok(Json {
+            value: Value::Array(items),
+        })
     }
 
     /// The URL of an address, or of the grant endpoint: a path under an origin.

@@ -18,4 +18,4 @@ returns c =
     let what = said_of c.args.said.now in
     let text = option_map (λ (bytes : Vec ℕ Global). bytes.items) c.args.body.now in
     body ∙ nine_parts (codes "HTTP/1.1 ") what.status (codes "\r\n") (line_if (codes "allow: ") what.allow) (codes "connection: close\r\n")
-      (content_lines text) (line_if (codes "www-authenticate: ") what.challenge) (codes "\r\n") (unwrap_or text [])
+    (content_lines text) (line_if (codes "www-authenticate: ") what.challenge) (codes "\r\n") (unwrap_or text [])
