@@ -1,5 +1,6 @@
 -- When a reply's body can be JSON: its texts are UTF-8 (RFC 8259, section 8.1).
 use Rattle.std.specs.Prelude.{ℕ, List, ⊤, IfSome}
+use Rattle.std.specs.List.{All}
 use Rattle.std.specs.Str.{IsUtf8}
 use Rattle.op_model.specs.declared.reply.Refusal.{Refusal}
 use Rattle.op_model.specs.declared.reply.Refusal.TheVariants as refusals
@@ -7,6 +8,8 @@ use Rattle.op_model.specs.declared.reply.Reply.{Reply}
 use Rattle.op_model.specs.declared.reply.ReplyBody.{ReplyBody}
 use Rattle.op_model.specs.declared.reply.ReplyBody.TheVariants as replies
 use Rattle.op_model.specs.declared.reply.AddressShown.{AddressShown}
+use Rattle.op_model.specs.declared.reply.LimitsShown.{LimitsShown}
+use Rattle.op_model.specs.declared.reply.ItemShown.{ItemShown}
 use Rattle.op_api.specs.Fields.{IsAccountText}
 
 abbrev pub IsRefusalText : Refusal → Type 0
@@ -16,6 +19,15 @@ IsRefusalText _ = ⊤
 
 abbrev pub IsAddressText : AddressShown → Type 0
 IsAddressText address = IsUtf8 address.path × IfSome address.name IsUtf8
+
+abbrev pub IsLimitsText : LimitsShown → Type 0
+IsLimitsText limits = IfSome limits.interval IsUtf8
+
+abbrev pub IsItemText : ItemShown → Type 0
+IsItemText item = IfSome item.identifier IsUtf8 × IfSome item.limits IsLimitsText
+
+abbrev pub AreItemTexts : List ItemShown → Type 0
+AreItemTexts items = All IsItemText items
 
 -- The texts of a body. The forms without a line are not printed.
 abbrev pub IsBodyText : (origin : List ℕ) → ReplyBody → Type 0
@@ -28,6 +40,10 @@ IsBodyText origin (replies.Moved transfer account amount) = IsUtf8 transfer × I
 IsBodyText origin (replies.RateSet source target rate) = ⊤
 IsBodyText origin (replies.PaymentRead number payment) = ⊤
 IsBodyText origin (replies.AddressFound address) = IsAddressText address
+IsBodyText origin (replies.GrantIssued number items access continuation) = AreItemTexts items × IsUtf8 access × IsUtf8 continuation
+IsBodyText origin (replies.GrantPending number nonce continuation) = IfSome nonce IsUtf8 × IsUtf8 continuation
+IsBodyText origin (replies.GrantPolled number continuation) = IsUtf8 continuation
+IsBodyText origin (replies.TokenRotated number items access) = AreItemTexts items × IsUtf8 access
 IsBodyText origin replies.Gone = ⊤
 IsBodyText origin (replies.Refused refusal) = IsRefusalText refusal
 IsBodyText origin _ = ⊥

@@ -3,6 +3,7 @@
 
 mod admin;
 mod fields;
+mod grants;
 mod print;
 mod refusals;
 mod replies;

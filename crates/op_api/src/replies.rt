@@ -5,9 +5,9 @@ ghost use Rattle.op_api.specs.Printable.{IsPrintable};
 ghost use Rattle.op_api.specs.Values.{data_of};
 ghost use Rattle.op_api.specs.Said.{said_of};
 
-use crate::admin;
 use crate::refusals::refusal_said;
 use crate::said::Said;
+use crate::{admin, grants};
 use op_model::{Reply, ReplyBody};
 use std::alloc::{AllocError, Global};
 
@@ -56,6 +56,35 @@ pub fn said(alloc: Global, reply: &Reply) -> Result<Said<'_>, AllocError>
         ReplyBody::AddressFound { address } => {
             Ok(Said::ok(admin::address_found(alloc, origin, address)?))
         }
+        ReplyBody::GrantIssued {
+            number,
+            items,
+            access,
+            continuation,
+        } => {
+            Ok(Said::ok(grants::issued(
+                alloc,
+                origin,
+                *number,
+                items.as_slice(),
+                access,
+                continuation,
+            )?))
+        }
+        ReplyBody::GrantPending {
+            number,
+            nonce,
+            continuation,
+        } => { Ok(Said::ok(grants::pending(alloc, origin, *number, nonce, continuation)?)) }
+        ReplyBody::GrantPolled {
+            number,
+            continuation,
+        } => { Ok(Said::ok(grants::polled(alloc, origin, *number, continuation)?)) }
+        ReplyBody::TokenRotated {
+            number,
+            items,
+            access,
+        } => { Ok(Said::ok(grants::rotated(alloc, origin, *number, items.as_slice(), access)?)) }
         ReplyBody::Gone => Ok(Said::gone()),
         ReplyBody::Refused(refusal) => refusal_said(alloc, origin, refusal),
         _ => unreachable!(),
