@@ -16,7 +16,7 @@ below : (b : ℕ) → nat_lt b 128 ≡ true → b < 128
 below b h = search (rules, tests)
 
 -- for bytes that are written out
-IsAscii-from_test : (bytes : List ℕ) → list_all (λ b. nat_lt b 128) bytes ≡ true → IsAscii bytes
+pub IsAscii-from_test : (bytes : List ℕ) → list_all (λ b. nat_lt b 128) bytes ≡ true → IsAscii bytes
 IsAscii-from_test [] h = IsAscii-nil
 IsAscii-from_test (b ∷ bytes) h =
     let parts = both (nat_lt b 128) (list_all (λ x. nat_lt x 128) bytes) h in

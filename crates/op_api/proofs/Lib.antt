@@ -4,4 +4,5 @@ mod Joined
 mod Joint
 mod Lists
 mod Objects
+mod Redirects
 mod Tables

@@ -1,5 +1,10 @@
 -- Lists of values.
-use Rattle.std.proofs.Common.{◌≡◌, ◌<◌, ◌+◌, ℕ, List, [], ◌∷◌, ◌++◌, length, map, take, get_or, false, Some, None, refl, ap, ◌∙◌, sym}
+use Rattle.std.proofs.Common.{◌≡◌, ◌<◌, ◌+◌, ℕ, List, [], ◌∷◌, ◌++◌, length, map, take, get_or, false, Some, None, refl, ap, ◌∙◌, sym, ◌-◌, arith, option_map, slice_get, is_some}
+use Rattle.std.proofs.lemmas.List.{length-map}
+use Rattle.std.proofs.lemmas.Bool.{false≢true}
+use Rattle.std.specs.List.{last_or}
+use Rattle.std.proofs.lemmas.Option.{slice_get-map}
+use Rattle.op_model.specs.History.{last}
 use Rattle.std.specs.Prelude.{filter_map}
 use Rattle.std.specs.Option.{option_to_list}
 use Rattle.std.specs.declared.option.Option.{Option}
@@ -42,3 +47,15 @@ filtered_next f xs i d under =
 pub mapped_next : {X Y : Type 0} (f : X → Y) (xs : List X) (i : ℕ) (d : X) → i < length xs
     → map f (take (i + 1) xs) ≡ map f (take i xs) ++ f (get_or xs i d) ∷ []
 mapped_next f xs i d under = ap (map f) (take_more xs i d under) ∙ map_last f (take i xs) (get_or xs i d)
+
+-- the last element stands at the last place
+last_by_place : {X : Type 0} (o : Option X) (x : X) (xs : List X) → last_or o (x ∷ xs) ≡ slice_get (x ∷ xs) (length xs)
+last_by_place o x [] = refl
+last_by_place o x (y ∷ ys) = last_by_place (Some x) y ys
+
+pub last_shown : {X : Type 0} (f : X → ℕ) (xs : List X) (x : X) → Some x ≡ slice_get xs (length xs - 1) → Some (f x) ≡ last (map f xs)
+last_shown f [] x is = absurd (false≢true (ap is_some (sym is)))
+last_shown f (y ∷ ys) x is =
+    let place : length (y ∷ ys) - 1 ≡ length ys = omega arith in
+    ap (option_map f) (is ∙ ap (slice_get (y ∷ ys)) place) ∙ sym (slice_get-map f (y ∷ ys) (length ys))
+    ∙ ap (slice_get (map f (y ∷ ys))) (sym (length-map ys f)) ∙ sym (last_by_place None (f y) (map f ys))

@@ -10,6 +10,10 @@ use Rattle.op_model.specs.declared.reply.ReplyBody.TheVariants as replies
 use Rattle.op_model.specs.declared.reply.AddressShown.{AddressShown}
 use Rattle.op_model.specs.declared.reply.LimitsShown.{LimitsShown}
 use Rattle.op_model.specs.declared.reply.ItemShown.{ItemShown}
+use Rattle.op_model.specs.declared.reply.IncomingShown.{IncomingShown}
+use Rattle.op_model.specs.declared.reply.OutgoingShown.{OutgoingShown}
+use Rattle.op_model.specs.declared.reply.FeedEvent.{FeedEvent}
+use Rattle.op_model.specs.declared.reply.Redirect.{Redirect}
 use Rattle.op_api.specs.Fields.{IsAccountText}
 
 abbrev pub IsRefusalText : Refusal → Type 0
@@ -29,6 +33,28 @@ IsItemText item = IfSome item.identifier IsUtf8 × IfSome item.limits IsLimitsTe
 abbrev pub AreItemTexts : List ItemShown → Type 0
 AreItemTexts items = All IsItemText items
 
+abbrev pub IsIncomingText : IncomingShown → Type 0
+IsIncomingText row = IsUtf8 row.path
+
+abbrev pub AreIncomingTexts : List IncomingShown → Type 0
+AreIncomingTexts rows = All IsIncomingText rows
+
+abbrev pub IsOutgoingText : OutgoingShown → Type 0
+IsOutgoingText row = IsUtf8 row.path
+
+abbrev pub AreOutgoingTexts : List OutgoingShown → Type 0
+AreOutgoingTexts rows = All IsOutgoingText rows
+
+abbrev pub IsEventText : FeedEvent → Type 0
+IsEventText event = IsUtf8 event.payee
+
+abbrev pub AreEventTexts : List FeedEvent → Type 0
+AreEventTexts events = All IsEventText events
+
+-- the nonces are hashed, and not told
+abbrev pub IsRedirectText : Redirect → Type 0
+IsRedirectText redirect = IsUtf8 redirect.finish.uri × IsUtf8 redirect.reference
+
 -- The texts of a body. The forms without a line are not printed.
 abbrev pub IsBodyText : (origin : List ℕ) → ReplyBody → Type 0
 IsBodyText origin (replies.OriginSet set) = IsUtf8 set
@@ -38,6 +64,7 @@ IsBodyText origin (replies.AddressAdded number address) = IsAddressText address
 IsBodyText origin (replies.AddressRead number path available posted) = IsUtf8 path
 IsBodyText origin (replies.Moved transfer account amount) = IsUtf8 transfer × IsAccountText origin account
 IsBodyText origin (replies.RateSet source target rate) = ⊤
+IsBodyText origin (replies.Decided redirect) = IfSome redirect IsRedirectText
 IsBodyText origin (replies.PaymentRead number payment) = ⊤
 IsBodyText origin (replies.AddressFound address) = IsAddressText address
 IsBodyText origin (replies.GrantIssued number items access continuation) = AreItemTexts items × IsUtf8 access × IsUtf8 continuation
@@ -45,6 +72,15 @@ IsBodyText origin (replies.GrantPending number nonce continuation) = IfSome nonc
 IsBodyText origin (replies.GrantPolled number continuation) = IsUtf8 continuation
 IsBodyText origin (replies.TokenRotated number items access) = AreItemTexts items × IsUtf8 access
 IsBodyText origin replies.Gone = ⊤
+IsBodyText origin (replies.IncomingMade incoming) = IsUtf8 incoming.path
+IsBodyText origin (replies.IncomingRead incoming) = IsUtf8 incoming.path
+IsBodyText origin (replies.IncomingList rows has_previous has_next) = AreIncomingTexts rows
+IsBodyText origin (replies.QuoteMade quote) = IsUtf8 quote.path
+IsBodyText origin (replies.QuoteRead quote) = IsUtf8 quote.path
+IsBodyText origin (replies.OutgoingMade outgoing) = IsUtf8 outgoing.path
+IsBodyText origin (replies.OutgoingRead outgoing) = IsUtf8 outgoing.path
+IsBodyText origin (replies.OutgoingList rows has_previous has_next) = AreOutgoingTexts rows
+IsBodyText origin (replies.Feed events) = AreEventTexts events
 IsBodyText origin (replies.Refused refusal) = IsRefusalText refusal
 IsBodyText origin _ = ⊥
 

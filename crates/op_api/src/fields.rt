@@ -1,12 +1,12 @@
 //! What stands in the members of a reply, and objects from tables of members.
 ghost use Rattle.std.specs.Prelude.{◌≡◌, false, IfOk, IfSome, IsTrue, OnOk, ◌++◌, map, filter_map, option_map};
 ghost use Rattle.std.specs.Option.{option_to_list};
-ghost use Rattle.serde_json.specs.Data.{string, object as object_data};
+ghost use Rattle.serde_json.specs.Data.{string, object as object_data, member, no_members};
 ghost use Rattle.op_model.specs.Bodies.{account_text, state_text, reason_text, type_text};
 ghost use Rattle.serde_json.specs.View.{members_view};
 ghost use Rattle.serde_json.specs.Written.{has_float, members_have_float};
 ghost use Rattle.op_api.specs.Values.{data_of};
-ghost use Rattle.op_api.specs.Fields.{field_data, members_data, put_if as with_member, IsText, IsAccountText, AreTexts, is_ascending, named_action};
+ghost use Rattle.op_api.specs.Fields.{field_data, members_data, put_if as with_member, IsText, IsAccountText, AreTexts, is_ascending, is_behind, named_action};
 
 use crate::values::Json;
 use op_amount::{Amount, Asset, AssetCode};
@@ -245,4 +245,22 @@ pub fn object(alloc: Global, members: &[(&str, Field<'_>)]) -> Result<Json, Allo
     Ok(Json {
         value: Value::Object(map),
     })
+}
+
+/// An object of two values, whose names ascend.
+pub fn two_of<'x>(
+    alloc: Global,
+    name: &'x str,
+    value: &'x Json,
+    last_name: &'x str,
+    last: &'x Json,
+) -> Result<Json, AllocError>
+    requires { IsTrue (is_behind last_name.now name.now) }
+    ensures { IfOk result (λ json. data_of json
+        ≡ object_data (member name.now (data_of value.now) (member last_name.now (data_of last.now) no_members))) }
+{
+    object(
+        alloc,
+        &[(name, Field::Json(value)), (last_name, Field::Json(last))],
+    )
 }

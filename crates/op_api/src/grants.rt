@@ -1,14 +1,13 @@
 //! The bodies of replies on grants (RFC 9635, sections 3.1 to 3.3).
-ghost use Rattle.std.specs.Prelude.{◌≡◌, ℕ, List, IsTrue, IfOk, IfSome, codes, map, option_map};
+ghost use Rattle.std.specs.Prelude.{◌≡◌, ℕ, List, IfOk, IfSome, codes, map, option_map};
 ghost use Rattle.serde_json.specs.Data.{object as object_data, string, member, no_members};
-ghost use Rattle.op_api.specs.Fields.{is_behind};
 ghost use Rattle.op_model.specs.declared.reply.ItemShown.{ItemShown};
 ghost use Rattle.std.specs.Str.{IsUtf8};
 ghost use Rattle.op_model.specs.Bodies.{list, limits_data, item_data, token_data, continue_data, interact_data, issued_data, pending_data, polled_data, rotated_data};
 ghost use Rattle.op_api.specs.Values.{data_of};
 ghost use Rattle.op_api.specs.Printable.{IsLimitsText, IsItemText, AreItemTexts};
 
-use crate::fields::{Field, object};
+use crate::fields::{Field, object, two_of};
 use crate::values::Json;
 use op_model::{ItemShown, LimitsShown};
 use op_names::{Kind, Origin, SecretText};
@@ -188,24 +187,6 @@ fn continuation_with<'x>(
             ),
             ("wait", Field::SmallIf(wait)),
         ],
-    )
-}
-
-/// An object of two values, whose names ascend.
-fn two_of<'x>(
-    alloc: Global,
-    name: &'x str,
-    value: &'x Json,
-    last_name: &'x str,
-    last: &'x Json,
-) -> Result<Json, AllocError>
-    requires { IsTrue (is_behind last_name.now name.now) }
-    ensures { IfOk result (λ json. data_of json
-        ≡ object_data (member name.now (data_of value.now) (member last_name.now (data_of last.now) no_members))) }
-{
-    object(
-        alloc,
-        &[(name, Field::Json(value)), (last_name, Field::Json(last))],
     )
 }
 

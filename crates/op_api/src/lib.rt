@@ -4,7 +4,9 @@
 mod admin;
 mod fields;
 mod grants;
+mod payments;
 mod print;
+mod redirect;
 mod refusals;
 mod replies;
 mod said;

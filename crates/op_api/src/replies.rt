@@ -7,7 +7,7 @@ ghost use Rattle.op_api.specs.Said.{said_of};
 
 use crate::refusals::refusal_said;
 use crate::said::Said;
-use crate::{admin, grants};
+use crate::{admin, grants, payments, redirect};
 use op_model::{Reply, ReplyBody};
 use std::alloc::{AllocError, Global};
 
@@ -50,6 +50,9 @@ pub fn said(alloc: Global, reply: &Reply) -> Result<Said<'_>, AllocError>
             target,
             rate,
         } => { Ok(Said::ok(admin::rate(alloc, source, target, rate)?)) }
+        ReplyBody::Decided { redirect } => Ok(Said::ok(redirect::decided(
+            alloc, origin, redirect,
+        )?)),
         ReplyBody::PaymentRead { number, payment } => {
             Ok(Said::ok(admin::payment(alloc, *number, payment)?))
         }
@@ -86,6 +89,51 @@ pub fn said(alloc: Global, reply: &Reply) -> Result<Said<'_>, AllocError>
             access,
         } => { Ok(Said::ok(grants::rotated(alloc, origin, *number, items.as_slice(), access)?)) }
         ReplyBody::Gone => Ok(Said::gone()),
+        ReplyBody::IncomingMade { incoming } => {
+            Ok(Said::created(payments::incoming(alloc, origin, incoming)?))
+        }
+        ReplyBody::IncomingRead { incoming } => {
+            Ok(Said::ok(payments::incoming(alloc, origin, incoming)?))
+        }
+        ReplyBody::IncomingList {
+            rows,
+            has_previous,
+            has_next,
+        } => {
+            Ok(Said::ok(payments::incoming_list(
+                alloc,
+                origin,
+                rows.as_slice(),
+                *has_previous,
+                *has_next,
+            )?))
+        }
+        ReplyBody::QuoteMade { quote } => Ok(Said::created(payments::quote(alloc, origin, quote)?)),
+        ReplyBody::QuoteRead { quote } => Ok(Said::ok(payments::quote(alloc, origin, quote)?)),
+        ReplyBody::OutgoingMade { outgoing } => {
+            Ok(Said::created(payments::outgoing(alloc, origin, outgoing)?))
+        }
+        ReplyBody::OutgoingRead { outgoing } => {
+            Ok(Said::ok(payments::outgoing(alloc, origin, outgoing)?))
+        }
+        ReplyBody::OutgoingList {
+            rows,
+            has_previous,
+            has_next,
+        } => {
+            Ok(Said::ok(payments::outgoing_list(
+                alloc,
+                origin,
+                rows.as_slice(),
+                *has_previous,
+                *has_next,
+            )?))
+        }
+        ReplyBody::Feed { events } => Ok(Said::ok(payments::feed(
+            alloc,
+            origin,
+            events.as_slice(),
+        )?)),
         ReplyBody::Refused(refusal) => refusal_said(alloc, origin, refusal),
         _ => unreachable!(),
     }
