@@ -55,7 +55,7 @@ AreEventTexts events = All IsEventText events
 abbrev pub IsRedirectText : Redirect → Type 0
 IsRedirectText redirect = IsUtf8 redirect.finish.uri × IsUtf8 redirect.reference
 
--- The texts of a body. The forms without a line are not printed.
+-- The texts of a body. What is not replied to anybody (a step, an expiry, an attempt) is not printed.
 abbrev pub IsBodyText : (origin : List ℕ) → ReplyBody → Type 0
 IsBodyText origin (replies.OriginSet set) = IsUtf8 set
 IsBodyText origin (replies.AssetAdded asset pieces) = ⊤
@@ -82,7 +82,9 @@ IsBodyText origin (replies.OutgoingRead outgoing) = IsUtf8 outgoing.path
 IsBodyText origin (replies.OutgoingList rows has_previous has_next) = AreOutgoingTexts rows
 IsBodyText origin (replies.Feed events) = AreEventTexts events
 IsBodyText origin (replies.Refused refusal) = IsRefusalText refusal
-IsBodyText origin _ = ⊥
+IsBodyText origin (replies.Stepped answer) = ⊥
+IsBodyText origin replies.Noted = ⊥
+IsBodyText origin replies.NotDue = ⊥
 
 pub record IsPrintable (reply : Reply) : Type 0 where
   pub origin : IsUtf8 reply.origin

@@ -10,6 +10,8 @@ mod redirect;
 mod refusals;
 mod replies;
 mod said;
+#[cfg(test)]
+mod tests;
 mod values;
 
 pub use print::print_reply;

@@ -90,7 +90,7 @@ fn message(alloc: Global, said: &Said<'_>, body: &Option<Vec<u8>>) -> Result<Vec
     Ok(out)
 }
 
-/// A reply's bytes. Its form is one that is printed, and its texts are UTF-8. Want of memory is the one error.
+/// A reply's bytes. It is one that is replied to somebody, and its texts are UTF-8. Want of memory is the one error.
 pub fn print_reply(alloc: Global, reply: &Reply) -> Result<Vec<u8>, AllocError>
     requires { IsPrintable reply.now }
     ensures { IfOk result (λ text. text.items ≡ printed reply.now) }

@@ -135,6 +135,6 @@ pub fn said(alloc: Global, reply: &Reply) -> Result<Said<'_>, AllocError>
             events.as_slice(),
         )?)),
         ReplyBody::Refused(refusal) => refusal_said(alloc, origin, refusal),
-        _ => unreachable!(),
+        ReplyBody::Stepped(_) | ReplyBody::Noted | ReplyBody::NotDue => unreachable!(),
     }
 }
