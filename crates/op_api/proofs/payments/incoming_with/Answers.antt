@@ -1,5 +1,0 @@
-use Rattle.std.proofs.Common.{sym}
-use Rattle.op_api.proofs.payments.incoming_with.Goals as goal
-
-pub returns : goal.returns
-returns c = rw (sym c.requires.metadata) c.object.ensures

@@ -1,5 +1,0 @@
-use Rattle.op_api.proofs.Lists.{last_shown}
-use Rattle.op_api.proofs.payments.last_outgoing.Goals as goal
-
-pub returns : goal.returns
-returns c = last_shown (λ row. row.number) c.args.rows.now c.in_ok-last.field-0.now c.in_ok-last.ensures.value
