@@ -1,0 +1,8 @@
+mod AsciiTexts
+mod IdTexts
+mod Joined
+mod Joint
+mod Lists
+mod Objects
+mod Redirects
+mod Tables

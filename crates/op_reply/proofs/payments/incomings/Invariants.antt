@@ -1,0 +1,7 @@
+use Rattle.std.proofs.Common.{◌≡◌, map, take}
+use Rattle.op_model.specs.Bodies.{incoming_data}
+use Rattle.op_reply.specs.Values.{data_of}
+use Rattle.op_reply.proofs.payments.incomings.Given as goal
+
+abbrev pub invariant-loop-row : goal.invariant-loop-row
+invariant-loop-row l = map data_of l.values.items ≡ map (incoming_data l.origin) (take l.row-index l.rows)

@@ -1,0 +1,7 @@
+use Rattle.std.proofs.Common.{sym, subst}
+use Rattle.std.specs.Str.{IsUtf8}
+use Rattle.op_reply.proofs.IdTexts.{IsUtf8-id_text}
+use Rattle.op_reply.proofs.values.Json.row_url.Goals as goal
+
+pub utf8-id-requires : goal.utf8-id-requires
+utf8-id-requires c = subst IsUtf8 (sym c.id_text-id.ensures) (IsUtf8-id_text (record { kind = c.args.kind; number = c.args.number }))

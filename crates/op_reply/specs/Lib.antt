@@ -1,0 +1,5 @@
+pub mod Fields
+pub mod Parts
+pub mod Printable
+pub mod Said
+pub mod Values
