@@ -48,7 +48,7 @@ leaves_map : {D : Type 0} (moment : D → ℕ) (since : D → ℕ → List ℕ �
 leaves_map moment since old new P Q f leaves = record {
   later = leaves.later;
   each = λ c there. f c (leaves.each c there);
-  before = λ t c early there. elim (leaves.before t c early there) [ | inl past ↦ inl past | inr now ↦ inr (f c now) ];
+  before = λ t c early there. elim (leaves.before t c early there) [ inl past ↦ inl past | inr now ↦ inr (f c now) ];
 }
 
 -- a round without entries is none
@@ -217,9 +217,9 @@ module _ {D : Type 0} (moment : D → ℕ) (since : D → ℕ → List ℕ → T
         ];
         before = λ m c early there. elim (lasts.leaves.before m c (omega (arith, early, stood.least)) there) [
           | inl past ↦ elim (stood.before m c early past) [
-              | inl opening ↦ inl opening
-              | inr left ↦ inr (longer_left (length first) before final c goes left)
-            ]
+            | inl opening ↦ inl opening
+            | inr left ↦ inr (longer_left (length first) before final c goes left)
+          ]
           | inr now ↦ inr (left_at_least (length first) before final c (omega (arith, a, b)) goes now)
         ];
         least = omega (arith, stood.least, lasts.least, a, b, s, sl);

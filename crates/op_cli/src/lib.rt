@@ -7,6 +7,8 @@
 mod outside;
 mod program;
 mod session;
+#[cfg(test)]
+mod tests;
 mod words;
 
 pub use outside::Outside;

@@ -2,7 +2,8 @@
 #![tactic(auto)]
 
 use op_cli::{Outside, wallet_main};
-use op_ports::{ReadSource, SystemClock, WriteSink};
+use op_disk::FileDisk;
+use op_ports::{ReadSource, SystemClock, SystemWords, WriteSink};
 use std::process::ExitCode;
 use std::rt::Env;
 use std::{env, io};
@@ -35,12 +36,27 @@ fn status_without_words(fault: &io::Error) -> u8 {
     }
 }
 
-/// The command over standard input, standard output and the system's clock.
+/// The name of the journal's file: the second word, or nothing.
+fn journal_name<R: AllocGlobal>(rt: &R, words: &[String]) -> io::Result<String> {
+    let name = match words.get(1) {
+        Some(word) => word.as_str(),
+        None => "",
+    };
+    Ok(String::from_str(rt.alloc(), name)?)
+}
+
+/// The command over the journal's file, standard input, standard output, the system's clock and its random bytes. The
+/// file is opened at the first call on it.
 fn run(rt: &HostRuntime, words: &[String]) -> u8 {
+    let Ok(journal) = journal_name(rt, words) else {
+        return 8;
+    };
     let mut outside = Outside {
+        disk: FileDisk::new(rt, journal),
         source: ReadSource::new(rt.stdin()),
         sink: WriteSink::new(io::writer(rt)),
         clock: SystemClock::new(rt),
+        draws: SystemWords::new(rt),
     };
     wallet_main(rt.alloc(), words, &mut outside)
 }
@@ -50,9 +66,13 @@ fn line_for(status: u8) -> Option<&'static str> {
     match status {
         0 => None,
         2 => Some("usage: wallet apply JOURNAL"),
+        3 => Some("wallet: the journal spells no legal history"),
         4 => Some("wallet: a read of the input failed"),
+        5 => Some("wallet: a call on the journal's file failed"),
         6 => Some("wallet: a write of the output failed"),
+        7 => Some("wallet: the journal is full"),
         8 => Some("wallet: memory was wanting"),
+        9 => Some("wallet: no random bytes could be drawn"),
         10 => Some("wallet: the rest of the input begins with no request"),
         11 => Some("wallet: as many requests were answered as one session answers"),
         _ => Some("wallet: unknown status"),

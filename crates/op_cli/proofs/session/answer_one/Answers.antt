@@ -22,7 +22,7 @@ returns-in-Ok-clause-ok g c =
     let old = history_at c.args.desk.now in
     on_ok_map c.run_request.result
     (λ handled. subst (λ (asked : Result Request Refusal). Told old (history_at c.run_request.new.desk) (g.K.Sink.written c.args.sink.now) (g.K.Sink.written c.run_request.new.sink) c.args.answer c.args.word.now asked) (sym c.in-Ok.ensures.meant)
-        (handled.0, answers_handled old _ c.args.answer c.args.word.now c.in-Ok.request handled.0 handled.1, handled.2))
+    (handled.0, answers_handled old _ c.args.answer c.args.word.now c.in-Ok.request handled.0 handled.1, handled.2))
     c.run_request.ensures.ok
 
 pub returns-in-Ok-clause-err : goal.returns-in-Ok-clause-err

@@ -14,15 +14,15 @@ pub returns-in-Ok-clause-ready : goal.returns-in-Ok-clause-ready
 returns-in-Ok-clause-ready g c =
     on_ok_map c.write_reply.result
     (λ (_ : Unit {0}). ready_behind g.D.Disk.tells g.D.Disk.seen g.D.Disk.images c.close_round.new.self c.args.round.batch.begun c.args.round.batch.entries c.args.desk.now.tail c.args.disk.now c.close_round.new.disk
-        c.in-Ok.ensures.whole c.requires.stands c.in-Ok.ensures.stands c.in-Ok.ensures.images)
+    c.in-Ok.ensures.whole c.requires.stands c.in-Ok.ensures.stands c.in-Ok.ensures.images)
     (on_ok_always c.write_reply.result)
 
 pub returns-in-Ok-clause-stands : goal.returns-in-Ok-clause-stands
 returns-in-Ok-clause-stands g c =
     on_ok_map c.write_reply.result
     (λ (_ : Unit {0}). leaves_round g.D.Disk.tells g.D.Disk.moment g.D.Disk.since g.D.Disk.images g.D.Disk.faults c.args.round.batch.begun c.args.round.batch.entries c.args.disk.now c.close_round.new.disk c.requires.one c.in-Ok.ensures.sound
-        (λ told. let s = c.requires.stands told in (s.0, s.1, c.in-Ok.ensures.any_moment told s.0 s.2, c.in-Ok.ensures.images told s.0 s.2))
-        c.in-Ok.ensures.calls (λ none. (c.in-Ok.ensures.empty none).1))
+    (λ told. let s = c.requires.stands told in (s.0, s.1, c.in-Ok.ensures.any_moment told s.0 s.2, c.in-Ok.ensures.images told s.0 s.2))
+    c.in-Ok.ensures.calls (λ none. (c.in-Ok.ensures.empty none).1))
     (on_ok_always c.write_reply.result)
 
 pub returns-in-Ok-clause-err : goal.returns-in-Ok-clause-err
