@@ -1,5 +1,5 @@
 -- A request that is meant is built, and keeps its forms.
-use Rattle.std.proofs.Common.{◌≡◌, ℕ, Bool, true, false, ◌&&◌, nat_le, cond, List, Some, None, Ok, Err, IsTrue, refl, sym, ap, subst, ◌∙◌}
+use Rattle.std.proofs.Common.{◌≡◌, ℕ, true, ◌&&◌, nat_le, List, Some, None, Ok, Err, refl, ap, subst}
 use Rattle.std.specs.Prelude.{option_and_then, ok_or, codes}
 use Rattle.std.specs.Option.{option_map_or}
 use Rattle.std.specs.declared.option.Option.{Option}
@@ -10,7 +10,7 @@ use Rattle.serde_json.specs.Data.{Data}
 use Rattle.serde_json.specs.Find.{as_u64, as_number, get}
 use Rattle.op_amount.specs.Code.{is_asset_code}
 use Rattle.op_model.specs.Asking.{◌>>=◌}
-use Rattle.op_model.specs.Json.{object_in, text_in, number_of, number_in, optional_in, if_within, or_bad, with_members}
+use Rattle.op_model.specs.Json.{object_in, text_in, number_of, optional_in, if_within, or_bad}
 use Rattle.op_model.specs.Meant.{meant, asked_if_built}
 use Rattle.op_model.specs.Members.{code_in, if_code, scale_in, pieces_in, asset_asked}
 use Rattle.op_model.specs.Requests.{Raw}

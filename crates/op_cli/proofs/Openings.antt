@@ -1,12 +1,12 @@
 -- What an opening leaves, and what stands behind it.
-use Rattle.std.proofs.Common.{◌≡◌, ◌≤◌, ◌<◌, ◌⊎◌, ◌+◌, ℕ, Bool, List, [], ◌∷◌, ◌++◌, length, map, IsTrue, refl, sym, ap, subst, ◌∙◌, inl, inr, arith}
-use Rattle.op_desk.specs.Spelling.{Spells, SpellsRounds, history_of, records}
+use Rattle.std.proofs.Common.{◌≡◌, ◌≤◌, ◌<◌, ◌+◌, ℕ, List, [], ◌∷◌, ◌++◌, length, map, refl, sym, ap, subst, ◌∙◌, inl, inr, arith}
+use Rattle.op_desk.specs.Spelling.{Spells, history_of, records}
 use Rattle.op_journal.specs.Frames as frames
 use Rattle.op_journal.specs.Recovered.{IsOldOrShort}
-use Rattle.op_model.specs.Session.{Final, settled}
+use Rattle.op_model.specs.Session.{Final}
 use Rattle.op_model.specs.declared.act.Entry.{Entry}
 use Rattle.op_cli.specs.Applies.{EveryMoment}
-use Rattle.op_cli.specs.Kept.{SpellsAtLeast, Kept, Stood}
+use Rattle.op_cli.specs.Kept.{SpellsAtLeast, Stood}
 use Rattle.op_cli.proofs.Journals.{spells_all, spells_longer}
 
 map_none : {X Y : Type 0} (f : X → Y) (xs : List X) → map f xs ≡ [] → xs ≡ []

@@ -1,8 +1,8 @@
 -- What a round of one task is replied, and what is written of it.
-use Rattle.std.proofs.Common.{◌≡◌, ◌≢◌, ◌+◌, ◌⊎◌, ℕ, Bool, true, false, List, [], ◌∷◌, Ok, Err, refl, sym, ap, subst, ◌∙◌, inl, inr, arith}
+use Rattle.std.proofs.Common.{◌≡◌, ◌≢◌, ◌⊎◌, ℕ, true, false, List, Ok, Err, refl, sym, subst, inl, inr, arith}
 use Rattle.std.specs.declared.option.Option.{Option}
 use Rattle.std.specs.declared.result.Result.{Result}
-use Rattle.std.specs.Io.KnownBytes.{Appends, Keeps}
+use Rattle.std.specs.Io.KnownBytes.{Appends}
 use Rattle.op_desk.specs.Wallets.{Handles}
 use Rattle.op_ports.specs.Sink.{AppendsFront}
 use Rattle.op_model.specs.History.{moment_of_turn}
@@ -18,7 +18,7 @@ use Rattle.op_model.specs.declared.reply.Refusal.TheVariants.{Memory, DiskFault,
 use Rattle.op_model.specs.declared.request.Request.{Request}
 use Rattle.op_model.specs.declared.request.Task.{Task}
 use Rattle.op_model.specs.declared.request.Task.TheVariants.{Ask}
-use Rattle.op_cli.specs.Turns.{Answers, Handled, NotHandled, NotStood, NotWritten, Told, NotTold, tried_after}
+use Rattle.op_cli.specs.Turns.{Answers, NotHandled, NotStood, NotWritten, NotTold, tried_after}
 
 -- ---- handling
 

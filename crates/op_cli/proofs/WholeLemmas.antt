@@ -6,7 +6,7 @@ use Rattle.std.specs.Io.KnownBytes.{Consumes, Appends, Keeps}
 use Rattle.op_model.specs.Printed.{printed}
 use Rattle.op_model.specs.Program.{code_of}
 use Rattle.op_model.specs.Requests.{IsEnded}
-use Rattle.op_model.specs.Session.{Final, Session, begun, texts, replies, IsComplete, IsRefusal, settled}
+use Rattle.op_model.specs.Session.{Final, Session, begun, texts, replies, IsComplete, IsRefusal}
 use Rattle.op_model.specs.Turn.{Standing, Turn, Run, refusal_reply}
 use Rattle.op_model.specs.World.{World}
 use Rattle.op_model.specs.declared.act.Entry.{Entry}

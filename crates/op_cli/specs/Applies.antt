@@ -1,7 +1,7 @@
 -- What a call of `apply` comes to: the journal is not opened, or a session on the history that its disk spells.
 use Rattle.std.specs.Prelude.{◌≡◌, ◌⊎◌, ◌≤◌, ◌<◌, ◌+◌, ◌-◌, ◌*◌, ℕ, Bool, List, ◌++◌, length, IsTrue}
 use Rattle.op_causes.specs.Causes.{Rose}
-use Rattle.op_desk.specs.Spelling.{Spells, SpellsSound}
+use Rattle.op_desk.specs.Spelling.{Spells}
 use Rattle.op_desk.specs.declared.fault.DeskFault.{DeskFault}
 use Rattle.op_desk.specs.declared.fault.DeskFault.TheVariants as faults
 use Rattle.op_disk.specs.Calls.{LeavesOnly}

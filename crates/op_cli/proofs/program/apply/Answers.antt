@@ -1,10 +1,9 @@
-use Rattle.std.proofs.Common.{◌≡◌, ℕ, List, IsTrue, sym, subst, ◌∙◌, inr}
+use Rattle.std.proofs.Common.{◌≡◌, ℕ, List, IsTrue, sym, subst, inr}
 use Rattle.op_causes.specs.Causes.{Rose}
 use Rattle.op_desk.proofs.Unique.{one_history}
 use Rattle.op_desk.specs.Spelling.{Spells}
 use Rattle.op_model.specs.declared.act.Entry.{Entry}
 use Rattle.op_cli.specs.Kept.{history_at}
-use Rattle.op_cli.specs.Told.{world_of}
 use Rattle.op_cli.proofs.Journals.{whole_is}
 use Rattle.op_cli.proofs.Openings.{every_moment}
 use Rattle.op_cli.proofs.WholeLemmas.{complete}

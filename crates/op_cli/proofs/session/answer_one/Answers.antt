@@ -1,4 +1,4 @@
-use Rattle.std.proofs.Common.{◌≡◌, ℕ, List, Err, Ok, sym, subst}
+use Rattle.std.proofs.Common.{◌≡◌, Err, sym, subst}
 use Rattle.std.specs.declared.result.Result.{Result}
 use Rattle.op_model.specs.Meant.{meant}
 use Rattle.op_model.specs.Session.{settled}

@@ -1,4 +1,4 @@
-use Rattle.std.proofs.Common.{◌≡◌, ◌≢◌, List, [], ℕ, Err, sym, subst, ap}
+use Rattle.std.proofs.Common.{◌≢◌, List, [], ℕ, Err, sym, subst, ap}
 use Rattle.op_desk.specs.Batches.{history_in}
 use Rattle.op_model.specs.History.{origin_of}
 use Rattle.op_model.specs.Session.{settled}

@@ -1,4 +1,4 @@
-use Rattle.std.proofs.Common.{◌≡◌, List, ℕ, refl, subst}
+use Rattle.std.proofs.Common.{List, ℕ, refl, subst}
 use Rattle.op_desk.specs.Batches.{history_in}
 use Rattle.op_model.specs.Session.{settled}
 use Rattle.op_model.specs.declared.act.Entry.{Entry}

@@ -1,4 +1,4 @@
-use Rattle.std.proofs.Common.{◌≡◌, ℕ, List, arith, ap, subst, ◌∙◌, refl}
+use Rattle.std.proofs.Common.{◌≡◌, arith, ap, subst, ◌∙◌, refl}
 use Rattle.op_http.specs.Held.{Held}
 use Rattle.op_model.specs.Session.{Session, settled}
 use Rattle.op_model.specs.Turn.{Standing, turn_limit}

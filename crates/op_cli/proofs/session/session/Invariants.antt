@@ -1,7 +1,6 @@
-use Rattle.std.proofs.Common.{◌≡◌, ◌≤◌, ◌*◌, List, IsTrue}
+use Rattle.std.proofs.Common.{◌≡◌, ◌≤◌, ◌*◌}
 use Rattle.op_model.specs.Session.{Final, Session, begun, settled}
 use Rattle.op_model.specs.World.{World}
-use Rattle.op_model.specs.declared.act.Entry.{Entry}
 use Rattle.op_model.specs.declared.end.End.{End}
 use Rattle.op_cli.specs.Kept.{history_at, IsReady, Kept}
 use Rattle.op_cli.specs.Told.{world_of}

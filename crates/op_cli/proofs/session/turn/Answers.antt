@@ -1,4 +1,4 @@
-use Rattle.std.proofs.Common.{◌≡◌, sym, subst}
+use Rattle.std.proofs.Common.{sym, subst}
 use Rattle.op_http.specs.Reader.{Takes}
 use Rattle.op_model.specs.Session.{settled}
 use Rattle.op_cli.specs.Kept.{history_at}
