@@ -1,5 +1,5 @@
 -- Moments and decimal texts are ASCII.
-use Rattle.std.proofs.Common.{◌≡◌, ◌<◌, ◌≤◌, ℕ, zero, suc, ◌+◌, ◌-◌, ◌%◌, ◌/◌, ◌^◌, ◌==◌, Bool, true, false, List, [], ◌∷◌, ◌++◌, codes, length, replicate, take, drop, refl, arith, mod-lt, if◌then◌else◌}
+use Rattle.std.proofs.Common.{◌<◌, ℕ, zero, suc, ◌+◌, ◌-◌, ◌%◌, ◌/◌, ◌^◌, ◌==◌, Bool, true, false, List, [], ◌∷◌, ◌++◌, codes, length, replicate, take, drop, arith, mod-lt, if◌then◌else◌}
 use Rattle.std.specs.Fmt.{decimal}
 use Rattle.std.specs.List.{insert}
 use Rattle.std.specs.Str.{IsAscii, IsUtf8}

@@ -1,5 +1,5 @@
 -- Metadata is the printed form of an object.
-use Rattle.std.proofs.Common.{◌≡◌, ℕ, List, Bool, true, false, ◌&&◌, Some, None, is_some, IsTrue, IsUtf8, bytes_eq, refl, ap, ◌∙◌, sym, inl, inr, if◌then◌else◌, length}
+use Rattle.std.proofs.Common.{◌≡◌, ℕ, List, Bool, true, false, Some, None, is_some, IsTrue, IsUtf8, bytes_eq, refl, ap, ◌∙◌, sym, inl, inr, if◌then◌else◌, length}
 use Rattle.std.specs.Prelude.{nat_le}
 use Rattle.std.specs.Option.{option_and_then}
 use Rattle.std.specs.Str.{is_utf8}

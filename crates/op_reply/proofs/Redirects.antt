@@ -1,13 +1,11 @@
 -- Redirects of texts are texts.
 use Rattle.std.proofs.Common.{ℕ, List, Bool, true, false, ◌++◌, codes, refl}
 use Rattle.std.specs.Prelude.{if◌then◌else◌}
-use Rattle.std.specs.Str.{IsAscii, IsUtf8}
+use Rattle.std.specs.Str.{IsUtf8}
 use Rattle.std.proofs.lemmas.Str.{IsUtf8-append, IsUtf8-from_ascii}
-use Rattle.std.proofs.lemmas.Str.Ascii.{IsAscii-nil, IsAscii-cons}
 use Rattle.base64.specs.Engines.{url_safe_no_pad}
-use Rattle.base64.specs.GeneralPurpose.{encode_of}
 use Rattle.base64.proofs.EngineFacts.{IsAscii-encode_of}
-use Rattle.op_names.specs.Interaction.{interaction_hash, hash_base}
+use Rattle.op_names.specs.Interaction.{interaction_hash}
 use Rattle.op_model.specs.Bodies.{redirect_url, grant_url, has_query}
 use Rattle.op_model.specs.declared.reply.Redirect.{Redirect}
 use Rattle.op_reply.proofs.IdTexts.{IsAscii-from_test}

@@ -1,5 +1,5 @@
 -- Tables of members: what stands in each, and when it is a text. The words are this project's own; JSON is RFC 8259.
-use Rattle.std.specs.Prelude.{ℕ, ◌==◌, bit_and, if◌then◌else◌, Bool, true, ◌&&◌, List, [], ◌∷◌, ◌++◌, codes, ⊤, Some, None, IfSome, option_map}
+use Rattle.std.specs.Prelude.{ℕ, ◌==◌, bit_and, if◌then◌else◌, Bool, true, ◌&&◌, List, [], ◌∷◌, ◌++◌, ⊤, Some, None, IfSome, option_map}
 use Rattle.std.specs.Borrow.{Bor}
 use Rattle.std.specs.Cmp.Lexicographic.{slice_cmp}
 use Rattle.std.specs.List.{list_all}

@@ -1,4 +1,4 @@
-use Rattle.std.proofs.Common.{◌≡◌, ◌++◌, List, ℕ, [], codes, refl, ap, ◌∙◌, option_map, unwrap_or, Vec, Global}
+use Rattle.std.proofs.Common.{ℕ, [], codes, refl, ◌∙◌, option_map, unwrap_or, Vec, Global}
 use Rattle.op_model.specs.Printed.{line_if, content_lines}
 use Rattle.op_reply.specs.Said.{said_of}
 use Rattle.op_reply.proofs.Joined.{and_then, nine_parts}

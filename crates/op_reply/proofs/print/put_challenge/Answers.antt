@@ -1,4 +1,4 @@
-use Rattle.std.proofs.Common.{◌≡◌, ◌++◌, List, ℕ, codes, Some, option_map, sym, ap, ◌∙◌}
+use Rattle.std.proofs.Common.{◌++◌, codes, option_map, sym, ap, ◌∙◌}
 use Rattle.std.proofs.lemmas.Result.{on_ok_weaker}
 use Rattle.op_model.specs.Bodies.{grant_url}
 use Rattle.op_model.specs.Printed.{line_if}

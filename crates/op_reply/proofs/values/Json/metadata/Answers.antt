@@ -1,6 +1,6 @@
 use Rattle.std.proofs.Common.{rules, sym, subst, IsTrue}
 use Rattle.op_model.specs.Metadata.{is_metadata}
-use Rattle.op_reply.proofs.Objects.{metadata_read, metadata_reads}
+use Rattle.op_reply.proofs.Objects.{metadata_reads}
 use Rattle.op_reply.proofs.values.Json.metadata.Goals as goal
 
 pub unreachable-requires : goal.unreachable-requires

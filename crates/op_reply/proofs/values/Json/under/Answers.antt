@@ -1,4 +1,4 @@
-use Rattle.std.proofs.Common.{◌≡◌, ◌++◌, ap, ◌∙◌}
+use Rattle.std.proofs.Common.{◌++◌, ap, ◌∙◌}
 use Rattle.serde_json.specs.Data.{string}
 use Rattle.op_reply.proofs.values.Json.under.Goals as goal
 
