@@ -7,18 +7,15 @@ SOURCES := crates.txt $(shell find crates -path '*/out' -prune -o -type f -print
 # The program, proved and built: bin/wallet.
 wallet: bin/wallet
 
-# `rt run` proves the program, builds it and runs it once, here on no requests.
+# `rt run` proves the program, builds it and runs it once, here on no requests and a journal that is thrown away.
 bin/wallet: $(SOURCES)
-	cd crates/wallet && rt run -- apply wallet.journal < /dev/null
+	folder=$$(mktemp -d) && (cd crates/wallet && rt run -- apply "$$folder/journal" < /dev/null); status=$$?; rm -rf "$$folder"; exit $$status
 	mkdir -p bin
 	cp crates/wallet/out/wallet $@
 
-# Two requests that add the same asset, and the two replies.
+# One journal, two runs on it, and what is refused.
 demo: bin/wallet
-	@echo '--- the requests:'
-	@cat crates/wallet/stdin; echo
-	@echo '--- the replies of `bin/wallet apply wallet.journal`:'
-	@bin/wallet apply wallet.journal < crates/wallet/stdin; echo; echo "--- status $$?"
+	sh examples/demo.sh
 
 # The gate: each proof, must-fail edit, test and program. Then what the gate cannot run: the program's exit statuses.
 test:

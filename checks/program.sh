@@ -17,6 +17,11 @@ check() {
     fi
 }
 
+# A fresh journal for each run.
+fresh() {
+    rm -f "$folder/journal"
+}
+
 # run WORDS.. < INPUT
 run() {
     "$wallet" "$@" > "$folder/out" 2> "$folder/err"
@@ -24,11 +29,18 @@ run() {
 }
 
 cp crates/wallet/stdout "$folder/want"
-run apply wallet.journal < crates/wallet/stdin
+run apply "$folder/journal" < crates/wallet/stdin
 check 'the same asset twice' 0 ''
 
+printf 'OPWJ\0\0\0\001\001\0\0\0\020' > "$folder/front"
+if ! head -c 13 "$folder/journal" | cmp -s - "$folder/front"; then
+    echo 'FAILED  the journal has one frame of sixteen bytes'
+    failed=1
+fi
+
 : > "$folder/want"
-run apply wallet.journal < /dev/null
+fresh
+run apply "$folder/journal" < /dev/null
 check 'no input' 0 ''
 
 usage='usage: wallet apply JOURNAL'
@@ -47,21 +59,28 @@ check 'a word too many' 2 "$usage"
 run apply "$(head -c 4097 /dev/zero | tr '\0' j)" < crates/wallet/stdin
 check 'a name of 4097 bytes' 2 "$usage"
 run apply "$(head -c 4096 /dev/zero | tr '\0' j)" < /dev/null
-check 'a name of 4096 bytes' 0 ''
+check 'a file that cannot be opened: its name is too long' 5 "wallet: a call on the journal's file failed"
 
-run apply wallet.journal < /
+printf 'OPWJ\0\0\0\002\0\0' > "$folder/journal"
+run apply "$folder/journal" < crates/wallet/stdin
+check 'a journal of another version' 3 'wallet: the journal spells no legal history'
+
+fresh
+run apply "$folder/journal" < /
 check 'an input that cannot be read' 4 'wallet: a read of the input failed'
 
 printf 'HTTP/1.1 400 Bad Request\r\nconnection: close\r\ncontent-length: 38\r\ncontent-type: application/json\r\n\r\n{"error":{"at":214,"code":"bad_http"}}' > "$folder/refusal"
 cat crates/wallet/stdout "$folder/refusal" > "$folder/want"
-{ cat crates/wallet/stdin; printf X; } | "$wallet" apply wallet.journal > "$folder/out" 2> "$folder/err"
+fresh
+{ cat crates/wallet/stdin; printf X; } | "$wallet" apply "$folder/journal" > "$folder/out" 2> "$folder/err"
 status=$?
 check 'a rest that is no request' 10 'wallet: the rest of the input begins with no request'
 
 if [ -c /dev/full ]; then
     : > "$folder/want"
     : > "$folder/out"
-    "$wallet" apply wallet.journal < crates/wallet/stdin > /dev/full 2> "$folder/err"
+    fresh
+    "$wallet" apply "$folder/journal" < crates/wallet/stdin > /dev/full 2> "$folder/err"
     status=$?
     check 'an output that takes nothing' 6 'wallet: a write of the output failed'
 fi
