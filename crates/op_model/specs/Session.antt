@@ -24,13 +24,23 @@ pub record Since : Type 0 where
   pub asked : List ℕ
   pub drawn : List (List ℕ)
 
--- the history that stands, and the one that a commit that failed may have left on the disk in its place
+-- The history that stands; the one that a commit that failed may have left on the disk in its place; and the one that did
+-- not fit in the journal. Where no commit failed, or all fitted, these are the one that stands.
 pub record Final : Type 0 where
   pub stands : List Entry
   pub tried : List Entry
+  pub unfit : List Entry
 
 abbrev pub settled : List Entry → Final
-settled history = record { stands = history; tried = history }
+settled history = record { stands = history; tried = history; unfit = history }
+
+-- the new one was tried
+abbrev pub tried_after : (old new : List Entry) → Final
+tried_after old new = record { stands = old; tried = new; unfit = old }
+
+-- the new one did not fit
+abbrev pub unfit_after : (old new : List Entry) → Final
+unfit_after old new = record { stands = old; tried = old; unfit = new }
 
 -- how much of a reply was written: all of it, or some of its front
 abbrev pub Writing : Type 1
@@ -69,13 +79,13 @@ pub record LosesRound (last mid : Standing) (since : Since) : Type 0 where
 abbrev pub FailsOnDisk : Writing → Standing → World → Since → Final → Type 0
 FailsOnDisk writes last after since final = (mid : Standing) × LosesRound last mid since
     × writes last.world.written after.written (printed (refusal_reply last.history DiskFault))
-    × (final ≡ record { stands = last.history; tried = mid.history })
+    × (final ≡ tried_after last.history mid.history)
 
 -- the round does not fit in the journal, and that is replied
 abbrev pub FailsForRoom : Writing → Standing → World → Since → Final → Type 0
 FailsForRoom writes last after since final = (mid : Standing) × LosesRound last mid since
     × writes last.world.written after.written (printed (refusal_reply last.history JournalFull))
-    × (final ≡ settled last.history)
+    × (final ≡ unfit_after last.history mid.history)
 
 -- a stream, where it is told, goes on from this offset with what is refused so
 abbrev pub IsRefusal : Refusal → ℕ → Option (List ℕ) → Type 0

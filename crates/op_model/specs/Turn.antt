@@ -1,5 +1,5 @@
 -- A turn: one request, from its bytes to its reply.
-use Rattle.std.specs.Prelude.{◌≡◌, ◌+◌, ◌<◌, ℕ, Bool, false, if◌then◌else◌, List, [], ◌∷◌, length, None, Ok, Err}
+use Rattle.std.specs.Prelude.{◌≡◌, ◌+◌, ◌<◌, ℕ, Bool, if◌then◌else◌, List, [], ◌∷◌, length, Ok, Err}
 use Rattle.std.specs.Io.KnownBytes.{Consumes, Appends}
 use Rattle.std.specs.declared.result.Result.{Result}
 use Rattle.op_ports.specs.Clock.{AsksKnown}
@@ -9,6 +9,7 @@ use Rattle.op_model.specs.Meant.{meant}
 use Rattle.op_model.specs.Printed.{printed}
 use Rattle.op_model.specs.Round.{Terms, Handled, IsPlainRound}
 use Rattle.op_model.specs.Requests.{Raw, IsWholeRequest}
+use Rattle.op_model.specs.Verdicts.{verdict_of}
 use Rattle.op_model.specs.World.{World}
 use Rattle.op_model.specs.declared.act.Entry.{Entry}
 use Rattle.op_model.specs.declared.reply.Reply.{Reply}
@@ -27,6 +28,8 @@ pub record Turn : Type 0 where
   -- the request's bytes in the stream, and its parts
   pub text : List ℕ
   pub raw : Raw
+  -- who asks
+  pub verdict : Verdict
   -- what the clock answered
   pub answer : ℕ
   -- what was drawn
@@ -36,10 +39,6 @@ pub record Turn : Type 0 where
 
 -- ---- what a request is replied, and what it adds
 
--- who asks is not looked at yet
-abbrev pub nobody : Verdict
-nobody = record { client = None; proved = false; token = None }
-
 -- no fee rule is there yet, and none is asked
 abbrev pub NoTerms : Terms
 NoTerms pair amount fee = ⊥
@@ -47,7 +46,7 @@ NoTerms pair amount fee = ⊥
 -- the turn's one task, as it was handled: at the place before its act
 abbrev pub handled : Request → Turn → Handled
 handled request turn = record {
-  task = Ask request nobody;
+  task = Ask request turn.verdict;
   word = turn.word;
   fee = 0;
   place = 0;
@@ -82,12 +81,15 @@ pub record Standing : Type 0 where
 pub record Begins (old : Standing) (turn : Turn) (new : Standing) : Type 0 where
   pub limit : old.answered < turn_limit
   pub spelled : IsWholeRequest turn.text turn.raw
+  pub judged : turn.verdict ≡ verdict_of old.world.accepts turn.raw
   pub read : Consumes old.world.left new.world.left turn.text
   pub asked : AsksKnown old.world.answers new.world.answers (turn.answer ∷ [])
   pub drawn : DrawsKnown old.world.words new.world.words (turn.word ∷ [])
+  pub whole : length turn.word ≡ 16
   pub replied : IsReplied old.history turn (meant turn.raw) new.history
   pub counted : new.answered ≡ old.answered + 1
   pub moved : new.at ≡ old.at + length turn.text
+  pub verifier : new.world.accepts ≡ old.world.accepts
 
 -- a whole turn
 pub record IsTurn (old : Standing) (turn : Turn) (new : Standing) : Type 0 where

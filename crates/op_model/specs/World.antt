@@ -1,8 +1,9 @@
 -- What the outside tells.
 use Rattle.std.specs.Prelude.{ℕ, List}
 use Rattle.std.specs.declared.option.Option.{Option}
+use Rattle.op_model.specs.Verdicts.{Accepts}
 
--- each where it is told
+-- each but the last where it is told
 pub record World : Type 0 where
   -- the bytes that are left to read
   pub left : Option (List ℕ)
@@ -12,3 +13,5 @@ pub record World : Type 0 where
   pub words : Option (List (List ℕ))
   -- what was written
   pub written : Option (List ℕ)
+  -- which key proofs the verifier accepts
+  pub accepts : Accepts
