@@ -1,16 +1,18 @@
 -- What a commit leaves, as rounds.
-use Rattle.std.proofs.Common.{◌≡◌, ◌≢◌, inl, inr, ⊎_elim, ℕ, ◌+◌, ◌≤◌, List, [], ◌∷◌, ◌++◌, length, take, map, get_or, refl, sym, ap, ◌∙◌, subst, arith, length-take}
+use Rattle.std.proofs.Common.{◌≡◌, ◌≢◌, inl, inr, ⊎_elim, ℕ, ◌+◌, ◌≤◌, ◌<◌, List, [], ◌∷◌, ◌++◌, length, length-append, take, map, get_or, refl, sym, ap, ◌∙◌, subst, arith, length-take}
 use Rattle.std.proofs.lemmas.Bool.{cases_lt}
 use Rattle.std.proofs.lemmas.List.{get_or-take, take-take}
+use Rattle.std.proofs.lemmas.List.Concat.{flat_map-append}
+use Rattle.std.specs.Int.{w32, to_be_bytes}
 use Rattle.op_disk.proofs.Moments.{started}
 use Rattle.op_disk.specs.Calls.{LeavesOnly}
 use Rattle.op_journal.specs.Commits as journal
 use Rattle.op_journal.specs.Commits.{IsSettled, payload_of}
 use Rattle.op_journal.specs.Frames as layout
-use Rattle.op_journal.specs.Frames.{Holds, SpellsUpTo, header, frame, frames}
+use Rattle.op_journal.specs.Frames.{Holds, SpellsUpTo, header, limit, frame, frames}
 use Rattle.op_model.specs.declared.act.Entry.{Entry}
 use Rattle.op_record.specs.Cuts.{HasRecord}
-use Rattle.op_desk.specs.Spelling.{records, HaveRecords, history_of, SpellsRounds, SpellsEither, Stands, with_round}
+use Rattle.op_desk.specs.Spelling.{records, HaveRecords, history_of, SpellsRounds, SpellsEither, LacksRoom, Stands, with_round}
 use Rattle.std.specs.Option.{option_map_or}
 use Rattle.std.specs.declared.option.Option.{Option}
 use Rattle.op_desk.specs.Batches.{IsWhole}
@@ -101,3 +103,24 @@ module _ {D : Type 0} (moment : D → ℕ) (since : D → ℕ → List ℕ → T
       → Stands rounds tail (seen d) (images d) → LeavesOnly moment since d d (SpellsEither rounds round)
   moments_none seen images only_now d rounds round tail stands =
       started moment since d (SpellsEither rounds round) (λ c left. inl (image_spells rounds tail (seen d) (images d) c stands (only_now d c left)))
+
+-- ---- a round that has no room
+
+frame_size : (payload : List ℕ) → length (frame payload) ≡ 5 + length payload
+frame_size payload = omega (arith, length-append (to_be_bytes w32 (length payload)) payload)
+
+pub lacks_room : (rounds : List (List Entry)) (before round : List Entry) (tail : ℕ) (seen : List ℕ) (images : List ℕ → Type 0) → Stands rounds tail seen images → images seen → history_of rounds ≡ before → limit < tail + (length (records round) + 6) → LacksRoom before (before ++ round) seen
+lacks_room rounds before round tail seen images stands here found past =
+    let old = map records rounds in
+    let size : length (header ++ frames (map records (rounds ++ round ∷ []))) ≡ 8 + (length (frames old) + (5 + length (records round))) =
+    ap (λ (l : List (List ℕ)). length (header ++ frames l)) (records_of-next rounds round)
+    ∙ (ap (λ (l : List ℕ). length (header ++ l)) (flat_map-append frame old (records round ∷ []))
+    ∙ omega (arith, length-append header (frames old ++ frames (records round ∷ [])), length-append (frames old) (frames (records round ∷ [])), length-append (frame (records round)) [], frame_size (records round))) in
+    record {
+      rounds = rounds;
+      spelled = image_spells rounds tail seen images seen stands here;
+      found = found;
+      round = round;
+      wanted = refl;
+      passes = omega (arith, past, size, gate_size old tail seen stands.holds);
+    }

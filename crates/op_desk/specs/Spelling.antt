@@ -1,5 +1,5 @@
 -- What a disk spells: a history, as the records of its rounds, each round in a frame of the journal.
-use Rattle.std.specs.Prelude.{◌≡◌, ◌⊎◌, ℕ, List, [], ◌∷◌, ◌++◌, map}
+use Rattle.std.specs.Prelude.{◌≡◌, ◌⊎◌, ◌<◌, ◌+◌, ℕ, List, [], ◌∷◌, ◌++◌, length, map}
 use Rattle.std.specs.List.{flat_map, AllByRecursion}
 use Rattle.op_model.specs.declared.act.Entry.{Entry}
 use Rattle.op_record.specs.Cuts.{HasRecord}
@@ -41,6 +41,16 @@ pub record Stands (rounds : List (List Entry)) (tail : ℕ) (seen : List ℕ) (i
   pub have : HaveRecords (history_of rounds)
   pub holds : frames.Holds (map records rounds) tail seen
   pub settled : IsSettled tail seen images
+
+-- Bytes spell a history, and the round that would make this longer one of it has no room: the header, the frames with its own
+-- behind them, and a gate behind that pass the journal's limit.
+pub record LacksRoom (before after : List Entry) (bytes : List ℕ) : Type 0 where
+  pub rounds : List (List Entry)
+  pub spelled : SpellsRounds rounds bytes
+  pub found : history_of rounds ≡ before
+  pub round : List Entry
+  pub wanted : after ≡ before ++ round
+  pub passes : frames.limit < length (frames.header ++ frames.frames (map records (rounds ++ round ∷ []))) + 1
 
 -- a round with entries is one more; one without is none
 abbrev pub with_round : List (List Entry) → List Entry → List (List Entry)

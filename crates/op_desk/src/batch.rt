@@ -167,6 +167,7 @@ impl Batch {
         requires proper { IsTrue (is_proper (history_in self.old) task.now) }
 
         ensures handled { Handles (history_in self.old) self.old.moment (length self.old.entries) task.now word.now result (history_in self.new) }
+        ensures sound { IsSound (history_in self.new) }
         ensures entries { (entry : _) × (self.new.entries ≡ with_entry self.old.entries entry) }
         ensures places { self.new.places ≡ slice_set self.old.places index (length self.old.entries) }
         ensures used { self.new.used ≡ slice_set self.old.used index true }

@@ -10,7 +10,7 @@ ghost use Rattle.op_model.specs.History.{last_moment};
 ghost use Rattle.op_model.specs.declared.act.Entry.{Entry};
 ghost use Rattle.op_desk.specs.Batches.{DeskValue, IsWhole, history_in};
 ghost use Rattle.op_desk.specs.Reading.{Fails, IsFree};
-ghost use Rattle.op_desk.specs.Spelling.{Spells, SpellsSound, SpellsRounds, SpellsEither, Stands, with_round, history_of, records};
+ghost use Rattle.op_desk.specs.Spelling.{Spells, SpellsSound, SpellsRounds, SpellsEither, LacksRoom, Stands, with_round, history_of, records};
 ghost use Rattle.op_desk.specs.Wallets.{WalletValue, IsSound};
 
 use crate::batch::{Batch, Committed, Round};
@@ -51,8 +51,9 @@ impl Desk {
     /// Nothing is repaired and nothing is lost: at every moment a crash leaves a disk that there was, or where the disk was
     /// that short, another that is.
     pub fn recover<D: Disk>(alloc: Global, disk: &mut D) -> Result<Desk, DeskFault>
-        // The history is legal, and all that the disk spells.
+        // The history is legal, all that the disk spells, and the only one that it spells.
         ensures whole { IfOk result (λ desk. (history : List Entry) × IsWhole desk.wallet history × IsSound history × (IsTrue D.tells → Spells history (D.seen disk.old))) }
+        ensures alone { IfOk result (λ desk. IsTrue D.tells → (history : List Entry) → Spells history (D.seen disk.old) → IsWhole desk.wallet history) }
         ensures stands { IfOk result (λ desk. IsTrue D.tells → (rounds : List (List Entry)) × IsWhole desk.wallet (history_of rounds) × Stands rounds desk.tail (D.seen disk.new) (D.images disk.new)) }
         ensures images { IfOk result (λ desk. IsTrue D.tells → (c : List ℕ) → D.images disk.new c → (rounds : List (List Entry)) × IsWhole desk.wallet (history_of rounds) × SpellsRounds rounds c) }
         // A refusal comes where reading from the front first fails, and no such disk is opened; a legal history is.
@@ -161,6 +162,7 @@ impl Desk {
         ensures cause { (IsErrOf result RoundFault.DiskFault → ⊥) → D.faults disk.new ≡ D.faults disk.old }
         ensures fault { IsErrOf result RoundFault.DiskFault → Rose (D.faults disk.old) (D.faults disk.new) }
         ensures full { (tail need : ℕ) → IsErrOf result (RoundFault.Full tail need) → (batch.entries ≢ []) × (tail ≡ self.old.tail) × (need ≡ length (records batch.entries) + 6) × (limit < tail + need) × (disk.new ≡ disk.old) }
+        ensures no_room { (tail need : ℕ) → IsErrOf result (RoundFault.Full tail need) → IsTrue D.tells → LacksRoom batch.begun (history_in batch) (D.seen disk.new) }
         ensures full_where { batch.entries ≢ [] → limit < self.old.tail + (length (records batch.entries) + 6) → IsErrOf result (RoundFault.Full self.old.tail (length (records batch.entries) + 6)) }
     {
         self.wallet = None;

@@ -1,9 +1,10 @@
-use Rattle.std.proofs.Common.{◌≡◌, ◌≢◌, ◌∙◌, [], ℕ, List, map, ap, sym, subst}
+use Rattle.std.proofs.Common.{◌≡◌, ◌≢◌, ◌∙◌, ◌+◌, [], ℕ, List, length, map, ap, sym, subst, arith}
+use Rattle.std.proofs.lemmas.Result.{err_from_is_err_and}
 use Rattle.op_journal.specs.Commits.{payload_of}
 use Rattle.op_model.specs.declared.act.Entry.{Entry}
-use Rattle.op_desk.specs.Batches.{DeskValue}
-use Rattle.op_desk.specs.Spelling.{records, Stands, with_round, SpellsRounds}
-use Rattle.op_desk.proofs.Closing.{stands_more, image_spells, moments_more, moments_none}
+use Rattle.op_desk.specs.Batches.{DeskValue, history_in}
+use Rattle.op_desk.specs.Spelling.{records, LacksRoom, Stands, with_round, SpellsRounds}
+use Rattle.op_desk.proofs.Closing.{lacks_room, stands_more, image_spells, moments_more, moments_none}
 use Rattle.op_desk.proofs.desk.Desk.close_round.Goals as goal
 
 pub returns-in_err-commit-clause-any_moment : goal.returns-in_err-commit-clause-any_moment
@@ -16,6 +17,18 @@ returns-in_err-commit-clause-any_moment g c told rounds stands =
     let payload : payload_of body ≡ records c.args.batch.entries = ap payload_of c.deref.ensures.value ∙ r.payload in
     let some : c.args.batch.entries ≢ [] = λ none. let no = r.empty.1 none in cc (no, c.if-not-round.false) in
     moments_more g.D.Disk.moment g.D.Disk.since c.args.disk.now c.commit.new.disk rounds c.args.batch.entries body c.self.inside.journal.tail some here.have r.have payload only
+
+pub returns-in_err-commit-clause-no_room : goal.returns-in_err-commit-clause-no_room
+returns-in_err-commit-clause-no_room g c tail need is told =
+    let p = err_from_is_err_and c.from_residual.result c.from_residual.ensures.1 in
+    let full = c.in_err-commit.ensures.full tail need (cc (p.1, p.2, is)) in
+    let stood = c.requires.stands told in
+    let here : c.args.self.now.tail ≡ c.self.inside.journal.tail = ap (λ (v : DeskValue). v.tail) (sym c.self.view_is) in
+    let disk = c.args.disk.now in
+    let body : length c.deref.result.now ≡ length (records c.args.batch.entries) + 5 = ap length c.deref.ensures.value ∙ c.into_round-round.ensures.length in
+    subst (λ (seen : List ℕ). LacksRoom c.args.batch.begun (history_in c.args.batch) seen) (ap g.D.Disk.seen (sym full.3))
+    (lacks_room stood.0 c.args.batch.begun c.args.batch.entries c.args.self.now.tail (g.D.Disk.seen disk) (g.D.Disk.images disk) stood.2 (g.met.D.Disk.reads_an_image disk told) stood.1
+    (omega (arith, full.0, full.1, full.2, here, body)))
 
 pub returns-clause-any_moment : goal.returns-clause-any_moment
 returns-clause-any_moment g c told rounds stands =

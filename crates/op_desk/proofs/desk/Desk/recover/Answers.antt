@@ -11,7 +11,7 @@ use Rattle.op_desk.specs.Wallets.{WalletValue}
 use Rattle.op_desk.specs.declared.fault.DeskFault.{DeskFault}
 use Rattle.op_desk.proofs.Closing.{image_spells}
 use Rattle.op_desk.proofs.Recovering.{read_more, fails_at_frame, fails_at_record, fails_at_entry, begin_due, next_due, payload_due, spells_all, read_is_old}
-use Rattle.op_desk.proofs.Unique.{due_where, free_where, sound_fails_not}
+use Rattle.op_desk.proofs.Unique.{due_where, free_where, sound_fails_not, one_history}
 use Rattle.op_desk.proofs.desk.Desk.recover.Goals as goal
 
 -- ---- a refusal of the opening
@@ -73,6 +73,13 @@ returns-then-not-more-clause-whole g c =
           let upto = e.spells no told payloads (subst (λ (k : ℕ). Holds payloads k seen) (sym inv.at) read.holds) in
           let here = subst (λ (k : ℕ). SpellsUpTo payloads k seen) ((e.end no).0 ∙ inv.at) (subst (λ (l : List ℕ). SpellsUpTo payloads c.next_frame.new.self.at l) e.seen upto) in
           spells_all old seen images c.loop-frame.recovery.length c.loop-frame.gate c.loop-frame.wallet.history read here,
+    )
+
+pub returns-then-not-more-clause-alone : goal.returns-then-not-more-clause-alone
+returns-then-not-more-clause-alone g c told history spelled =
+    let whole = returns-then-not-more-clause-whole g c in (
+      c.loop-frame.wallet.spare,
+      ap (λ (h : List Entry). let w : WalletValue = record { history = h; spare = c.loop-frame.wallet.spare } in Some w) (one_history (g.D.Disk.seen c.args.disk.now) whole.0 history (whole.3 told) spelled),
     )
 
 pub returns-then-not-more-clause-refused_where : goal.returns-then-not-more-clause-refused_where
