@@ -76,6 +76,7 @@ returns-then-not-more-clause-whole g c =
     )
 
 pub returns-then-not-more-clause-alone : goal.returns-then-not-more-clause-alone
+unfolding returns-then-not-more-clause-whole
 returns-then-not-more-clause-alone g c told history spelled =
     let whole = returns-then-not-more-clause-whole g c in (
       c.loop-frame.wallet.spare,
