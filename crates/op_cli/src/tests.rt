@@ -1,8 +1,10 @@
 //! The top call over the forms in memory. Expected bytes are written out here, and were not taken from a run.
+ghost use Rattle.std.specs.Prelude.{false};
+
 use crate::outside::Outside;
 use crate::program::wallet_main;
 use op_disk::MemoryDisk;
-use op_ports::{MemorySink, MemorySource, TableClock, TableWords};
+use op_ports::{MemorySink, MemorySource, TableClock, TableWords, Verifier};
 use std::alloc::{AllocError, Global};
 use std::test::Fail;
 
@@ -26,6 +28,26 @@ const FRESH: &[u8] = b"OPWJ\x00\x00\x00\x01\x00";
 
 const WITH_USD: &[u8] =
     b"OPWJ\x00\x00\x00\x01\x01\x00\x00\x00\x10\x00\x00\x01\x8d\xf9\xe2\xb2\x00\x02\x00\x03USD\x02\x01\x00";
+
+/// No proof is one. No route that is built looks at proofs.
+#[derive(Drop)]
+struct NoProofs;
+
+impl Verifier for NoProofs {
+    ghost accepts = { λ verifier client method target body authorization proof. false };
+
+    fn verify(
+        &self,
+        _client: &[u8],
+        _method: &[u8],
+        _target: &[u8],
+        _body: &[u8],
+        _authorization: &[u8],
+        _proof: &[u8],
+    ) -> bool {
+        false
+    }
+}
 
 /// What a call came to.
 #[derive(Drop)]
@@ -74,6 +96,7 @@ fn apply(alloc: Global, input: &str, outdoors: Outdoors<'_>) -> Result<Run, Allo
         sink: MemorySink::new(Vec::new(alloc), piece, bad_writes),
         clock: TableClock::new(vec![in alloc; NOON]?),
         draws: TableWords::new(Vec::new(alloc), bad_draws),
+        verifier: NoProofs,
     };
     let mut words = Vec::new(alloc);
     words.push(String::from_str(alloc, "apply")?)?;
@@ -405,6 +428,7 @@ fn other_words_are_no_command(rt: HostRuntime) -> Result<(), Fail> {
             sink: MemorySink::new(Vec::new(alloc), 1, Vec::new(alloc)),
             clock: TableClock::new(Vec::new(alloc)),
             draws: TableWords::new(Vec::new(alloc), Vec::new(alloc)),
+            verifier: NoProofs,
         };
         let mut words = Vec::new(alloc);
         words.push(String::from_str(alloc, "apply")?)?;
