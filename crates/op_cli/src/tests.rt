@@ -238,6 +238,11 @@ fn bodies_have_their_replies(rt: HostRuntime) -> Result<(), Fail> {
             "201 Created",
             "{\"assetCode\":\"EUR\",\"assetScale\":18,\"pieces\":1}",
         ),
+        (
+            "{\"assetCode\":\"USD\",\"assetScale\":2,\"assetCode\":\"EUR\"}",
+            "201 Created",
+            "{\"assetCode\":\"EUR\",\"assetScale\":2,\"pieces\":1}",
+        ),
     ];
     for (body, status, told) in rows {
         let input = request(rt.alloc(), body)?;
@@ -246,6 +251,32 @@ fn bodies_have_their_replies(rt: HostRuntime) -> Result<(), Fail> {
         assert_eq!(rt; run.status, 0);
         assert_eq!(rt; run.output.as_str(), output.as_str());
     }
+    Ok(())
+}
+
+#[test]
+fn a_body_of_65536_bytes_is_read(rt: HostRuntime) -> Result<(), Fail> {
+    let mut body = String::from_str(rt.alloc(), "{\"assetCode\":\"EUR\",\"assetScale\":2}")?;
+    for _space in 0..65502 {
+        body.push(' ')?;
+    }
+    let input = request(rt.alloc(), body.as_str())?;
+    let told = "{\"assetCode\":\"EUR\",\"assetScale\":2,\"pieces\":1}";
+    let output = reply(rt.alloc(), "201 Created", "", told)?;
+    let run = apply(rt.alloc(), input.as_str(), CALM)?;
+    assert_eq!(rt; run.status, 0);
+    assert_eq!(rt; run.output.as_str(), output.as_str());
+    Ok(())
+}
+
+#[test]
+fn other_fields_and_the_version_1_0_change_nothing(rt: HostRuntime) -> Result<(), Fail> {
+    let input =
+        "POST /admin/assets HTTP/1.0\r\nX-Any: y\r\ncontent-length: 34\r\n\r\n{\"assetCode\":\"USD\",\"assetScale\":2}";
+    let run = apply(rt.alloc(), input, CALM)?;
+    assert_eq!(rt; run.status, 0);
+    assert_eq!(rt; run.output.as_str(), ADDED);
+    assert_eq!(rt; run.journal.as_slice(), WITH_USD);
     Ok(())
 }
 
