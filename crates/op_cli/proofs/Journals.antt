@@ -11,9 +11,9 @@ use Rattle.op_desk.specs.Batches.{DeskValue, IsWhole}
 use Rattle.op_desk.specs.Spelling.{Spells, SpellsRounds, SpellsEither, Stands, history_of, with_round}
 use Rattle.op_desk.specs.Wallets.{WalletValue, IsSound, with_entry}
 use Rattle.op_disk.specs.Calls.{LeavesOnly}
-use Rattle.op_model.specs.Session.{Final, settled}
+use Rattle.op_model.specs.Session.{Final, settled, tried_after, unfit_after}
 use Rattle.op_model.specs.declared.act.Entry.{Entry}
-use Rattle.op_cli.specs.Kept.{SpellsAtLeast, GoesOn, Lasts, Leaves, Stood, Kept, IsReady, history_at}
+use Rattle.op_cli.specs.Kept.{SpellsAtLeast, GoesOn, Lasts, IsUnfit, Leaves, Stood, Kept, IsReady, history_at}
 
 -- ---- histories and those that begin them
 
@@ -61,14 +61,15 @@ settled_round before round one = record {
   one = omega (arith, one, length-append round []);
 }
 
-module _ {D : Type 0} (tells : Bool) (moment : D → ℕ) (since : D → ℕ → List ℕ → Type 0) (images : D → List ℕ → Type 0) (faults : D → ℕ) where
-  -- no call on the disk was made
-  pub leaves_same : (only_now : (disk : D) (c : List ℕ) → since disk (moment disk) c → images disk c) (before : List Entry) (disk : D) → IsSound before → (IsTrue tells → (c : List ℕ) → images disk c → Spells before c)
-      → Leaves tells moment since images faults before (settled before) disk disk
-  leaves_same only_now before disk sound spelled = record {
+module _ {D : Type 0} (tells : Bool) (seen : D → List ℕ) (moment : D → ℕ) (since : D → ℕ → List ℕ → Type 0) (images : D → List ℕ → Type 0) (faults : D → ℕ) where
+  -- no call on the disk was made, and where a round did not fit, there was no room for it
+  pub leaves_unfit : (only_now : (disk : D) (c : List ℕ) → since disk (moment disk) c → images disk c) (before unfit : List Entry) (disk : D) → IsSound before → (IsTrue tells → (c : List ℕ) → images disk c → Spells before c)
+      → IsUnfit tells (unfit_after before unfit) (seen disk) → Leaves tells seen moment since images faults before (unfit_after before unfit) disk disk
+  leaves_unfit only_now before unfit disk sound spelled room = record {
     goes_on = record { more = []; stands = sym (append-nil before); rest = []; tried = sym (append-nil before); one = omega arith };
     sound = sound;
     settled = λ none. refl;
+    unfit = room;
     lasts = λ told. record {
       leaves = record {
         later = omega arith;
@@ -81,16 +82,22 @@ module _ {D : Type 0} (tells : Bool) (moment : D → ℕ) (since : D → ℕ →
     };
   }
 
+  -- no call on the disk was made, and all fitted
+  pub leaves_same : (only_now : (disk : D) (c : List ℕ) → since disk (moment disk) c → images disk c) (before : List Entry) (disk : D) → IsSound before → (IsTrue tells → (c : List ℕ) → images disk c → Spells before c)
+      → Leaves tells seen moment since images faults before (settled before) disk disk
+  leaves_same only_now before disk sound spelled = leaves_unfit only_now before before disk sound spelled (λ differs told. absurd (differs refl))
+
   -- the round stands
   pub leaves_round : (before round : List Entry) (old new : D) → length round ≤ 1 → IsSound (before ++ round)
       → (IsTrue tells → (rounds : List (List Entry)) × (history_of rounds ≡ before) × LeavesOnly moment since old new (SpellsEither rounds round) × ((c : List ℕ) → images new c → SpellsRounds (with_round rounds round) c))
-      → (round ≢ [] → moment new ≡ moment old + 4) → (round ≡ [] → new ≡ old) → Leaves tells moment since images faults before (settled (before ++ round)) old new
+      → (round ≢ [] → moment new ≡ moment old + 4) → (round ≡ [] → new ≡ old) → Leaves tells seen moment since images faults before (settled (before ++ round)) old new
   leaves_round before [] old new one sound stands calls empty =
       let same : moment new ≡ moment old = ap moment (empty refl) in
       record {
         goes_on = settled_round before [] one;
         sound = sound;
         settled = λ none. refl;
+        unfit = λ differs told. absurd (differs refl);
         lasts = λ told.
             let s = stands told in
             record {
@@ -106,6 +113,7 @@ module _ {D : Type 0} (tells : Bool) (moment : D → ℕ) (since : D → ℕ →
         goes_on = settled_round before (e ∷ es) one;
         sound = sound;
         settled = λ none. refl;
+        unfit = λ differs told. absurd (differs refl);
         lasts = λ told.
             let s = stands told in
             record {
@@ -119,13 +127,14 @@ module _ {D : Type 0} (tells : Bool) (moment : D → ℕ) (since : D → ℕ →
   -- the round failed on the disk
   pub leaves_failed : (counts_now : (disk : D) (t : ℕ) (c : List ℕ) → t ≤ moment disk → images disk c → since disk t c) (before round : List Entry) (old new : D) → length round ≤ 1 → round ≢ [] → IsSound (before ++ round)
       → (IsTrue tells → (rounds : List (List Entry)) × (history_of rounds ≡ before) × LeavesOnly moment since old new (SpellsEither rounds round))
-      → Rose (faults old) (faults new) → moment new ≤ moment old + 4 → Leaves tells moment since images faults before (record { stands = before; tried = before ++ round }) old new
+      → Rose (faults old) (faults new) → moment new ≤ moment old + 4 → Leaves tells seen moment since images faults before (tried_after before (before ++ round)) old new
   leaves_failed counts_now before [] old new one some sound stands rose most = absurd (some refl)
   leaves_failed counts_now before (e ∷ es) old new one some sound stands rose most =
       record {
         goes_on = record { more = []; stands = sym (append-nil before); rest = e ∷ es; tried = refl; one = one };
         sound = sound;
         settled = λ none. absurd (none rose);
+        unfit = λ differs told. absurd (differs refl);
         lasts = λ told.
             let s = stands told in
             record {
@@ -226,26 +235,28 @@ module _ {D : Type 0} (moment : D → ℕ) (since : D → ℕ → List ℕ → T
         most = omega (arith, stood.most, lasts.most, a, b, s, sl, t, tl);
       }
 
-module _ {D : Type 0} (tells : Bool) (moment : D → ℕ) (since : D → ℕ → List ℕ → Type 0) (images : D → List ℕ → Type 0) (faults : D → ℕ) (only_now : (disk : D) (c : List ℕ) → since disk (moment disk) c → images disk c) where
+module _ {D : Type 0} (tells : Bool) (seen : D → List ℕ) (moment : D → ℕ) (since : D → ℕ → List ℕ → Type 0) (images : D → List ℕ → Type 0) (faults : D → ℕ) (only_now : (disk : D) (c : List ℕ) → since disk (moment disk) c → images disk c) where
   -- a session goes on by a turn
-  pub kept_more : (first before : List Entry) (final : Final) (opened old new : D) → Kept tells moment since images faults first (settled before) opened old → faults old ≡ faults opened
-      → Leaves tells moment since images faults before final old new → Kept tells moment since images faults first final opened new
+  pub kept_more : (first before : List Entry) (final : Final) (opened old new : D) → Kept tells seen moment since images faults first (settled before) opened old → faults old ≡ faults opened
+      → Leaves tells seen moment since images faults before final old new → Kept tells seen moment since images faults first final opened new
   kept_more first before final opened old new kept calm leaves = record {
     begins = (kept.begins.0 ++ leaves.goes_on.more, leaves.goes_on.stands ∙ (ap (λ (h : List Entry). h ++ leaves.goes_on.more) kept.begins.1 ∙ append_assoc first kept.begins.0 leaves.goes_on.more));
     tried = (leaves.goes_on.rest, leaves.goes_on.tried);
     sound = leaves.sound;
+    unfit = leaves.unfit;
     settled = λ none. leaves.settled (λ rose. none (subst (λ (n : ℕ). Rose n (faults new)) calm rose));
     stood = λ told. stood_more moment since images only_now first before final opened old new kept.begins (kept.stood told) leaves.goes_on (leaves.lasts told);
     at_exit = λ told. (leaves.lasts told).at_end;
   }
 
   -- a session begins
-  pub kept_first : (first : List Entry) (opened : D) → IsSound first → (IsTrue tells → (c : List ℕ) → images opened c → Spells first c) → Kept tells moment since images faults first (settled first) opened opened
+  pub kept_first : (first : List Entry) (opened : D) → IsSound first → (IsTrue tells → (c : List ℕ) → images opened c → Spells first c) → Kept tells seen moment since images faults first (settled first) opened opened
   kept_first first opened sound spelled = record {
     begins = ([], sym (append-nil first));
     tried = ([], sym (append-nil first));
     sound = sound;
     settled = λ none. refl;
+    unfit = λ differs told. absurd (differs refl);
     stood = λ told. record {
       each = λ k c within there.
           let none : k ≡ 0 = omega (arith, within) in

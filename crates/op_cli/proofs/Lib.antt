@@ -1,6 +1,7 @@
 mod Journals
 mod Meant
 mod Openings
+mod Printable
 mod Results
 mod RoundLemmas
 mod SessionLemmas

@@ -7,8 +7,8 @@ use Rattle.op_desk.specs.Wallets.{Handles}
 use Rattle.op_ports.specs.Sink.{AppendsFront}
 use Rattle.op_model.specs.History.{moment_of_turn}
 use Rattle.op_model.specs.Printed.{printed}
-use Rattle.op_model.specs.Session.{Final, settled}
-use Rattle.op_model.specs.Turn.{refusal_reply, nobody}
+use Rattle.op_model.specs.Session.{Final, settled, tried_after, unfit_after}
+use Rattle.op_model.specs.Turn.{refusal_reply}
 use Rattle.op_model.specs.declared.act.Entry.{Entry}
 use Rattle.op_model.specs.declared.end.End.{End}
 use Rattle.op_model.specs.declared.end.End.TheVariants as ends
@@ -18,7 +18,8 @@ use Rattle.op_model.specs.declared.reply.Refusal.TheVariants.{Memory, DiskFault,
 use Rattle.op_model.specs.declared.request.Request.{Request}
 use Rattle.op_model.specs.declared.request.Task.{Task}
 use Rattle.op_model.specs.declared.request.Task.TheVariants.{Ask}
-use Rattle.op_cli.specs.Turns.{Answers, NotHandled, NotStood, NotWritten, NotTold, tried_after}
+use Rattle.op_model.specs.declared.request.Verdict.{Verdict}
+use Rattle.op_cli.specs.Turns.{Answers, NotHandled, NotStood, NotWritten, NotTold}
 
 -- ---- handling
 
@@ -27,17 +28,17 @@ handles_same a b new s t p q task word reply x y z h =
     subst (λ (n : ℕ). Handles b t n task word reply new) z (subst (λ (n : ℕ). Handles b n p task word reply new) y (subst (λ (k : List Entry). Handles k s p task word reply new) x h))
 
 -- a task that is handled is answered in a turn
-pub answers_handled : (old new : List Entry) (answer : ℕ) (word : List ℕ) (request : Request) (reply : Reply) → Handles old (moment_of_turn old answer) 0 (Ask request nobody) word reply new → Answers old answer word (Ok request) reply new
-answers_handled old new answer word request reply (wanted, handled) = (wanted, λ text raw. (new, handled, omega arith, refl))
+pub answers_handled : (old new : List Entry) (verdict : Verdict) (answer : ℕ) (word : List ℕ) (request : Request) (reply : Reply) → Handles old (moment_of_turn old answer) 0 (Ask request verdict) word reply new → Answers old verdict answer word (Ok request) reply new
+answers_handled old new verdict answer word request reply (wanted, handled) = (wanted, λ text raw. (new, handled, omega arith, refl))
 
 -- a refusal of what means no request
-pub answers_refused : (old : List Entry) (answer : ℕ) (word : List ℕ) (refusal : Refusal) → Answers old answer word (Err refusal) (refusal_reply old refusal) old
-answers_refused old answer word refusal = (false, λ text raw. (refl, refl))
+pub answers_refused : (old : List Entry) (verdict : Verdict) (answer : ℕ) (word : List ℕ) (refusal : Refusal) → Answers old verdict answer word (Err refusal) (refusal_reply old refusal) old
+answers_refused old verdict answer word refusal = (false, λ text raw. (refl, refl))
 
 -- memory is wanting
-pub answers_wanting : (old : List Entry) (answer : ℕ) (word : List ℕ) (asked : Result Request Refusal) → Answers old answer word asked (refusal_reply old Memory) old
-answers_wanting old answer word (Ok request) = (true, λ text raw. (old, inl (refl, (tt, refl), refl), omega arith, refl))
-answers_wanting old answer word (Err refusal) = (true, λ text raw. (refl, refl))
+pub answers_wanting : (old : List Entry) (verdict : Verdict) (answer : ℕ) (word : List ℕ) (asked : Result Request Refusal) → Answers old verdict answer word asked (refusal_reply old Memory) old
+answers_wanting old verdict answer word (Ok request) = (true, λ text raw. (old, inl (refl, (tt, refl), refl), omega arith, refl))
+answers_wanting old verdict answer word (Err refusal) = (true, λ text raw. (refl, refl))
 
 -- ---- what is written of a round
 
@@ -53,11 +54,11 @@ module _ (old new : List Entry) (written written' : Option (List ℕ)) (text : L
       subst (λ (e : End). NotStood old new written written' text e (tried_after old new)) (sym cut) (inr (inl (differs, subst (λ (k : List ℕ). AppendsFront written written' k) is front, refl)))
 
   pub lost_for_room : (end : End) (last : List ℕ) → new ≢ old → last ≡ printed (refusal_reply old JournalFull) → ((end ≡ ends.JournalFull) × Appends written written' last) ⊎ ((end ≡ ends.WriteFault) × AppendsFront written written' last)
-      → NotStood old new written written' text end (settled old)
+      → NotStood old new written written' text end (unfit_after old new)
   lost_for_room end last differs is (inl (whole, all)) =
-      subst (λ (e : End). NotStood old new written written' text e (settled old)) (sym whole) (differs, subst (λ (k : List ℕ). Appends written written' k) is all, refl)
+      subst (λ (e : End). NotStood old new written written' text e (unfit_after old new)) (sym whole) (differs, subst (λ (k : List ℕ). Appends written written' k) is all, refl)
   lost_for_room end last differs is (inr (cut, front)) =
-      subst (λ (e : End). NotStood old new written written' text e (settled old)) (sym cut) (inr (inr (differs, subst (λ (k : List ℕ). AppendsFront written written' k) is front, refl)))
+      subst (λ (e : End). NotStood old new written written' text e (unfit_after old new)) (sym cut) (inr (inr (differs, subst (λ (k : List ℕ). AppendsFront written written' k) is front, refl)))
 
 module _ (old : List Entry) (written written' : Option (List ℕ)) (answer : ℕ) (word : List ℕ) where
   pub not_handled : (new : List Entry) (task : Task) (reply : Reply) (end : End) (final : Final) → Handles old (moment_of_turn old answer) 0 task word reply new → NotStood old new written written' (printed reply) end final
@@ -72,27 +73,27 @@ module _ (old : List Entry) (written written' : Option (List ℕ)) (answer : ℕ
   not_handled new task reply ends.Malformed final h n = (new, reply, h, n)
   not_handled new task reply ends.TurnLimit final h n = (new, reply, h, n)
 
-  pub not_told : (request : Request) (end : End) (final : Final) → NotHandled old written written' answer word (Ask request nobody) end final → NotTold old written written' answer word (Ok request) end final
-  not_told request ends.WriteFault final (new, reply, h, inl (front, is)) = inl (new, reply, answers_handled old new answer word request reply h, front, is)
-  not_told request ends.WriteFault final (new, reply, h, inr (inl (differs, front, is))) = inr (inl (new, reply, answers_handled old new answer word request reply h, differs, front, is))
-  not_told request ends.WriteFault final (new, reply, h, inr (inr (differs, front, is))) = inr (inr (new, reply, answers_handled old new answer word request reply h, differs, front, is))
-  not_told request ends.DiskFault final (new, reply, h, (differs, all, is)) = (new, reply, answers_handled old new answer word request reply h, differs, all, is)
-  not_told request ends.JournalFull final (new, reply, h, (differs, all, is)) = (new, reply, answers_handled old new answer word request reply h, differs, all, is)
-  not_told request ends.OutOfMemory final n = n
-  not_told request ends.Done final n = absurd n.3
-  not_told request ends.ReadFault final n = absurd n.3
-  not_told request ends.WordsFault final n = absurd n.3
-  not_told request ends.Malformed final n = absurd n.3
-  not_told request ends.TurnLimit final n = absurd n.3
+  pub not_told : (request : Request) (verdict : Verdict) (end : End) (final : Final) → NotHandled old written written' answer word (Ask request verdict) end final → NotTold old written written' verdict answer word (Ok request) end final
+  not_told request verdict ends.WriteFault final (new, reply, h, inl (front, is)) = inl (new, reply, answers_handled old new verdict answer word request reply h, front, is)
+  not_told request verdict ends.WriteFault final (new, reply, h, inr (inl (differs, front, is))) = inr (inl (new, reply, answers_handled old new verdict answer word request reply h, differs, front, is))
+  not_told request verdict ends.WriteFault final (new, reply, h, inr (inr (differs, front, is))) = inr (inr (new, reply, answers_handled old new verdict answer word request reply h, differs, front, is))
+  not_told request verdict ends.DiskFault final (new, reply, h, (differs, all, is)) = (new, reply, answers_handled old new verdict answer word request reply h, differs, all, is)
+  not_told request verdict ends.JournalFull final (new, reply, h, (differs, all, is)) = (new, reply, answers_handled old new verdict answer word request reply h, differs, all, is)
+  not_told request verdict ends.OutOfMemory final n = n
+  not_told request verdict ends.Done final n = absurd n.3
+  not_told request verdict ends.ReadFault final n = absurd n.3
+  not_told request verdict ends.WordsFault final n = absurd n.3
+  not_told request verdict ends.Malformed final n = absurd n.3
+  not_told request verdict ends.TurnLimit final n = absurd n.3
 
   -- a reply that adds nothing is not written whole
-  pub not_told_refused : (asked : Result Request Refusal) (reply : Reply) (end : End) → Answers old answer word asked reply old → NotWritten reply written written' end → NotTold old written written' answer word asked end (settled old)
-  not_told_refused asked reply ends.WriteFault h n = inl (old, reply, h, n, refl)
-  not_told_refused asked reply ends.OutOfMemory h n = (n, refl)
-  not_told_refused asked reply ends.Done h n = absurd n
-  not_told_refused asked reply ends.ReadFault h n = absurd n
-  not_told_refused asked reply ends.DiskFault h n = absurd n
-  not_told_refused asked reply ends.JournalFull h n = absurd n
-  not_told_refused asked reply ends.WordsFault h n = absurd n
-  not_told_refused asked reply ends.Malformed h n = absurd n
-  not_told_refused asked reply ends.TurnLimit h n = absurd n
+  pub not_told_refused : (verdict : Verdict) (asked : Result Request Refusal) (reply : Reply) (end : End) → Answers old verdict answer word asked reply old → NotWritten reply written written' end → NotTold old written written' verdict answer word asked end (settled old)
+  not_told_refused verdict asked reply ends.WriteFault h n = inl (old, reply, h, n, refl)
+  not_told_refused verdict asked reply ends.OutOfMemory h n = (n, refl)
+  not_told_refused verdict asked reply ends.Done h n = absurd n
+  not_told_refused verdict asked reply ends.ReadFault h n = absurd n
+  not_told_refused verdict asked reply ends.DiskFault h n = absurd n
+  not_told_refused verdict asked reply ends.JournalFull h n = absurd n
+  not_told_refused verdict asked reply ends.WordsFault h n = absurd n
+  not_told_refused verdict asked reply ends.Malformed h n = absurd n
+  not_told_refused verdict asked reply ends.TurnLimit h n = absurd n

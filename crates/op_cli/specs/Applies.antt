@@ -13,7 +13,7 @@ use Rattle.op_model.specs.World.{World}
 use Rattle.op_model.specs.declared.act.Entry.{Entry}
 use Rattle.op_model.specs.declared.end.End.{End}
 use Rattle.op_model.specs.declared.end.End.TheVariants.{DiskFault, OutOfMemory}
-use Rattle.op_cli.specs.Kept.{SpellsAtLeast}
+use Rattle.op_cli.specs.Kept.{SpellsAtLeast, IsUnfit}
 
 -- the exit status of a journal that is not opened
 abbrev pub code_of_fault : DeskFault → ℕ
@@ -58,4 +58,6 @@ pub record RunsOn {D : Type 0} (tells : Bool) (seen : D → List ℕ) (moment : 
   -- a crash at the end leaves what stands; only where the disk failed, perhaps with that round
   pub at_exit : IsTrue tells → (c : List ℕ) → images new c → Spells final.stands c ⊎ Spells final.tried c
   pub settled : ¬ Rose (faults old) (faults new) → final.tried ≡ final.stands
+  -- where a round is told not to fit, the journal as it stands has no room for it
+  pub unfit : IsUnfit tells final (seen new)
   pub at_every_moment : IsTrue tells → EveryMoment moment since first final old new

@@ -1,9 +1,9 @@
 -- What a crash may leave of the journal while a session runs.
-use Rattle.std.specs.Prelude.{◌≡◌, ◌⊎◌, ◌≤◌, ◌+◌, ◌-◌, ◌*◌, ℕ, Bool, List, [], ◌++◌, length, take, IsTrue, IsSome}
+use Rattle.std.specs.Prelude.{◌≡◌, ◌≢◌, ◌⊎◌, ◌≤◌, ◌+◌, ◌-◌, ◌*◌, ℕ, Bool, List, [], ◌++◌, length, take, IsTrue, IsSome}
 use Rattle.std.specs.Option.{option_map_or}
 use Rattle.op_causes.specs.Causes.{Rose}
 use Rattle.op_desk.specs.Batches.{DeskValue}
-use Rattle.op_desk.specs.Spelling.{Spells, Stands, history_of}
+use Rattle.op_desk.specs.Spelling.{Spells, Stands, LacksRoom, history_of}
 use Rattle.op_desk.specs.Wallets.{IsSound}
 use Rattle.op_disk.specs.Calls.{LeavesOnly}
 use Rattle.op_model.specs.Session.{Final}
@@ -39,11 +39,16 @@ pub record Lasts {D : Type 0} (moment : D → ℕ) (since : D → ℕ → List �
   pub least : moment old + 4 * (length final.stands - length before) ≤ moment new
   pub most : moment new ≤ moment old + 4 * (length final.tried - length before)
 
+-- where a round did not fit, the bytes that are seen have no room for it
+abbrev pub IsUnfit : Bool → Final → List ℕ → Type 0
+IsUnfit tells final seen = final.unfit ≢ final.stands → IsTrue tells → LacksRoom final.stands final.unfit seen
+
 -- what a turn leaves: at most one entry more, which is legal and stands unless the disk failed
-pub record Leaves {D : Type 0} (tells : Bool) (moment : D → ℕ) (since : D → ℕ → List ℕ → Type 0) (images : D → List ℕ → Type 0) (faults : D → ℕ) (before : List Entry) (final : Final) (old new : D) : Type 0 where
+pub record Leaves {D : Type 0} (tells : Bool) (seen : D → List ℕ) (moment : D → ℕ) (since : D → ℕ → List ℕ → Type 0) (images : D → List ℕ → Type 0) (faults : D → ℕ) (before : List Entry) (final : Final) (old new : D) : Type 0 where
   pub goes_on : GoesOn before final
   pub sound : IsSound final.tried
   pub settled : ¬ Rose (faults old) (faults new) → final.tried ≡ final.stands
+  pub unfit : IsUnfit tells final (seen new)
   pub lasts : IsTrue tells → Lasts moment since images before final old new
 
 -- Rounds on a disk since it was opened with a history. After the first 4k calls, and at every moment from there on, a crash
@@ -57,10 +62,11 @@ pub record Stood {D : Type 0} (moment : D → ℕ) (since : D → ℕ → List �
 
 -- What a session leaves of a history: it goes on, is legal and stands but for its last round where the disk failed. A crash at
 -- its end leaves what stands, or that with the last round.
-pub record Kept {D : Type 0} (tells : Bool) (moment : D → ℕ) (since : D → ℕ → List ℕ → Type 0) (images : D → List ℕ → Type 0) (faults : D → ℕ) (first : List Entry) (final : Final) (opened now : D) : Type 0 where
+pub record Kept {D : Type 0} (tells : Bool) (seen : D → List ℕ) (moment : D → ℕ) (since : D → ℕ → List ℕ → Type 0) (images : D → List ℕ → Type 0) (faults : D → ℕ) (first : List Entry) (final : Final) (opened now : D) : Type 0 where
   pub begins : (more : List Entry) × (final.stands ≡ first ++ more)
   pub tried : (rest : List Entry) × (final.tried ≡ final.stands ++ rest)
   pub sound : IsSound final.tried
   pub settled : ¬ Rose (faults opened) (faults now) → final.tried ≡ final.stands
+  pub unfit : IsUnfit tells final (seen now)
   pub stood : IsTrue tells → Stood moment since first final opened now
   pub at_exit : IsTrue tells → (c : List ℕ) → images now c → Spells final.stands c ⊎ Spells final.tried c

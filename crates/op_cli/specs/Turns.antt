@@ -1,5 +1,5 @@
 -- The parts of a turn.
-use Rattle.std.specs.Prelude.{◌≡◌, ◌≢◌, ◌⊎◌, ◌+◌, ◌<◌, ℕ, Bool, true, List, [], ◌∷◌}
+use Rattle.std.specs.Prelude.{◌≡◌, ◌≢◌, ◌⊎◌, ◌+◌, ◌<◌, ℕ, Bool, true, List, [], ◌∷◌, length}
 use Rattle.std.specs.Io.KnownBytes.{Appends, Keeps}
 use Rattle.std.specs.declared.option.Option.{Option}
 use Rattle.std.specs.declared.result.Result.{Result}
@@ -17,8 +17,9 @@ use Rattle.op_model.specs.Legal.{keeps_forms}
 use Rattle.op_model.specs.Meant.{meant}
 use Rattle.op_model.specs.Printed.{printed}
 use Rattle.op_model.specs.Requests.{Raw}
-use Rattle.op_model.specs.Session.{Final, Ends, Writing, settled}
+use Rattle.op_model.specs.Session.{Final, Ends, Writing, settled, tried_after, unfit_after}
 use Rattle.op_model.specs.Turn.{Standing, Turn, IsTurn, IsReplied, turn_limit, refusal_reply}
+use Rattle.op_model.specs.Verdicts.{verdict_of}
 use Rattle.op_model.specs.World.{World}
 use Rattle.op_model.specs.declared.act.Entry.{Entry}
 use Rattle.op_model.specs.declared.end.End.{End}
@@ -28,6 +29,7 @@ use Rattle.op_model.specs.declared.reply.Refusal.{Refusal}
 use Rattle.op_model.specs.declared.reply.Refusal.TheVariants.{BadHttp, LengthRequired, RequestTooLarge, DiskFault, JournalFull}
 use Rattle.op_model.specs.declared.request.Request.{Request}
 use Rattle.op_model.specs.declared.request.Task.{Task}
+use Rattle.op_model.specs.declared.request.Verdict.{Verdict}
 
 -- where a session stands: what the reader holds is still to be read
 abbrev pub here : List Entry → Held → World → ℕ → Standing
@@ -45,14 +47,14 @@ Stops old after end final = (n : ℕ) → n < turn_limit → Ends end (old n) af
 -- ---- one request, once it was read
 
 -- a turn with these parts
-abbrev pub turn_of : (text : List ℕ) → Raw → ℕ → List ℕ → Bool → Reply → Turn
-turn_of text raw answer word wanted reply =
-    record { text = text; raw = raw; answer = answer; word = word; wanted_memory = wanted; reply = reply }
+abbrev pub turn_of : (text : List ℕ) → Raw → Verdict → ℕ → List ℕ → Bool → Reply → Turn
+turn_of text raw verdict answer word wanted reply =
+    record { text = text; raw = raw; verdict = verdict; answer = answer; word = word; wanted_memory = wanted; reply = reply }
 
--- what was meant has its reply in a turn at which the clock gave this answer and this word was drawn
-abbrev pub Answers : (old : List Entry) → (answer : ℕ) (word : List ℕ) → Result Request Refusal → Reply → (new : List Entry) → Type 0
-Answers old answer word asked reply new =
-    (wanted : Bool) × ((text : List ℕ) (raw : Raw) → IsReplied old (turn_of text raw answer word wanted reply) asked new)
+-- what was meant by whom has its reply in a turn at which the clock gave this answer and this word was drawn
+abbrev pub Answers : (old : List Entry) → Verdict → (answer : ℕ) (word : List ℕ) → Result Request Refusal → Reply → (new : List Entry) → Type 0
+Answers old verdict answer word asked reply new =
+    (wanted : Bool) × ((text : List ℕ) (raw : Raw) → IsReplied old (turn_of text raw verdict answer word wanted reply) asked new)
 
 -- ---- a round of one task
 
@@ -60,10 +62,6 @@ Answers old answer word asked reply new =
 pub record IsFit (request : Request) : Type 0 where
   pub built : is_built_request request ≡ true
   pub forms : keeps_forms request ≡ true
-
--- the history that stands, where a commit that would make the new one failed
-abbrev pub tried_after : (old new : List Entry) → Final
-tried_after old new = record { stands = old; tried = new }
 
 -- the task is handled in a turn at which the clock gave this answer and this word was drawn, and its reply is written
 abbrev pub Handled : (old new : List Entry) (written written' : Option (List ℕ)) → ℕ → List ℕ → Task → Type 0
@@ -75,9 +73,9 @@ abbrev pub NotStood : (old new : List Entry) (written written' : Option (List �
 NotStood old new written written' text ends.WriteFault final =
     (AppendsFront written written' text × (final ≡ settled new))
     ⊎ ((new ≢ old) × AppendsFront written written' (printed (refusal_reply old DiskFault)) × (final ≡ tried_after old new))
-    ⊎ ((new ≢ old) × AppendsFront written written' (printed (refusal_reply old JournalFull)) × (final ≡ settled old))
+    ⊎ ((new ≢ old) × AppendsFront written written' (printed (refusal_reply old JournalFull)) × (final ≡ unfit_after old new))
 NotStood old new written written' text ends.DiskFault final = (new ≢ old) × Appends written written' (printed (refusal_reply old DiskFault)) × (final ≡ tried_after old new)
-NotStood old new written written' text ends.JournalFull final = (new ≢ old) × Appends written written' (printed (refusal_reply old JournalFull)) × (final ≡ settled old)
+NotStood old new written written' text ends.JournalFull final = (new ≢ old) × Appends written written' (printed (refusal_reply old JournalFull)) × (final ≡ unfit_after old new)
 NotStood old new written written' text _ final = ⊥
 
 -- why a task's reply is not written whole
@@ -89,43 +87,43 @@ NotHandled old written written' answer word task end final =
 -- ---- what was meant, its reply, and how that is written
 
 -- the reply is written
-abbrev pub Told : (old new : List Entry) (written written' : Option (List ℕ)) → ℕ → List ℕ → Result Request Refusal → Type 0
-Told old new written written' answer word asked =
-    (reply : Reply) × Answers old answer word asked reply new × Appends written written' (printed reply)
+abbrev pub Told : (old new : List Entry) (written written' : Option (List ℕ)) → Verdict → ℕ → List ℕ → Result Request Refusal → Type 0
+Told old new written written' verdict answer word asked =
+    (reply : Reply) × Answers old verdict answer word asked reply new × Appends written written' (printed reply)
 
 -- some of it is written
-abbrev pub CutShort : (old : List Entry) (written written' : Option (List ℕ)) → ℕ → List ℕ → Result Request Refusal → Final → Type 0
-CutShort old written written' answer word asked final =
-    (new : List Entry) × (reply : Reply) × Answers old answer word asked reply new × AppendsFront written written' (printed reply) × (final ≡ settled new)
+abbrev pub CutShort : (old : List Entry) (written written' : Option (List ℕ)) → Verdict → ℕ → List ℕ → Result Request Refusal → Final → Type 0
+CutShort old written written' verdict answer word asked final =
+    (new : List Entry) × (reply : Reply) × Answers old verdict answer word asked reply new × AppendsFront written written' (printed reply) × (final ≡ settled new)
 
 -- the round failed on the disk, or had no room in the journal, and that is written
-abbrev pub Lost : Writing → Refusal → (old : List Entry) (written written' : Option (List ℕ)) → ℕ → List ℕ → Result Request Refusal → (List Entry → Final) → Final → Type 0
-Lost writes refusal old written written' answer word asked left final =
-    (new : List Entry) × (reply : Reply) × Answers old answer word asked reply new × (new ≢ old)
+abbrev pub Lost : Writing → Refusal → (old : List Entry) (written written' : Option (List ℕ)) → Verdict → ℕ → List ℕ → Result Request Refusal → (List Entry → Final) → Final → Type 0
+Lost writes refusal old written written' verdict answer word asked left final =
+    (new : List Entry) × (reply : Reply) × Answers old verdict answer word asked reply new × (new ≢ old)
     × writes written written' (printed (refusal_reply old refusal)) × (final ≡ left new)
 
 -- why the reply is not written whole
-abbrev pub NotTold : (old : List Entry) (written written' : Option (List ℕ)) → ℕ → List ℕ → Result Request Refusal → End → Final → Type 0
-NotTold old written written' answer word asked ends.WriteFault final =
-    CutShort old written written' answer word asked final
-    ⊎ Lost AppendsFront DiskFault old written written' answer word asked (tried_after old) final
-    ⊎ Lost AppendsFront JournalFull old written written' answer word asked (λ new. settled old) final
-NotTold old written written' answer word asked ends.DiskFault final = Lost Appends DiskFault old written written' answer word asked (tried_after old) final
-NotTold old written written' answer word asked ends.JournalFull final = Lost Appends JournalFull old written written' answer word asked (λ new. settled old) final
-NotTold old written written' answer word asked ends.OutOfMemory final = Keeps written written' × (final ≡ settled old)
-NotTold old written written' answer word asked _ final = ⊥
+abbrev pub NotTold : (old : List Entry) (written written' : Option (List ℕ)) → Verdict → ℕ → List ℕ → Result Request Refusal → End → Final → Type 0
+NotTold old written written' verdict answer word asked ends.WriteFault final =
+    CutShort old written written' verdict answer word asked final
+    ⊎ Lost AppendsFront DiskFault old written written' verdict answer word asked (tried_after old) final
+    ⊎ Lost AppendsFront JournalFull old written written' verdict answer word asked (unfit_after old) final
+NotTold old written written' verdict answer word asked ends.DiskFault final = Lost Appends DiskFault old written written' verdict answer word asked (tried_after old) final
+NotTold old written written' verdict answer word asked ends.JournalFull final = Lost Appends JournalFull old written written' verdict answer word asked (unfit_after old) final
+NotTold old written written' verdict answer word asked ends.OutOfMemory final = Keeps written written' × (final ≡ settled old)
+NotTold old written written' verdict answer word asked _ final = ⊥
 
 -- ---- the same, once the clock was asked and a word was drawn
 
 abbrev pub Replies : (old new : List Entry) (w w' : World) → Raw → Type 0
-Replies old new w w' raw = (answer : ℕ) × (word : List ℕ) × AsksKnown w.answers w'.answers (answer ∷ []) × DrawsKnown w.words w'.words (word ∷ [])
-    × Told old new w.written w'.written answer word (meant raw)
+Replies old new w w' raw = (answer : ℕ) × (word : List ℕ) × AsksKnown w.answers w'.answers (answer ∷ []) × DrawsKnown w.words w'.words (word ∷ []) × (length word ≡ 16)
+    × Told old new w.written w'.written (verdict_of w.accepts raw) answer word (meant raw)
 
 abbrev pub ReplyFails : (old : List Entry) (w w' : World) → Raw → End → Final → Type 0
 ReplyFails old w w' raw ends.WordsFault final = (answer : ℕ) × AsksKnown w.answers w'.answers (answer ∷ []) × DrawsKnown w.words w'.words []
     × Keeps w.written w'.written × (final ≡ settled old)
-ReplyFails old w w' raw end final = (answer : ℕ) × (word : List ℕ) × AsksKnown w.answers w'.answers (answer ∷ []) × DrawsKnown w.words w'.words (word ∷ [])
-    × NotTold old w.written w'.written answer word (meant raw) end final
+ReplyFails old w w' raw end final = (answer : ℕ) × (word : List ℕ) × AsksKnown w.answers w'.answers (answer ∷ []) × DrawsKnown w.words w'.words (word ∷ []) × (length word ≡ 16)
+    × NotTold old w.written w'.written (verdict_of w.accepts raw) answer word (meant raw) end final
 
 -- a reply that is no act's is not written whole
 abbrev pub NotWritten : Reply → (written written' : Option (List ℕ)) → End → Type 0

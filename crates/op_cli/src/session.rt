@@ -1,6 +1,7 @@
 //! Sessions: requests from a source, replies to a sink, and what was answered in a journal.
 ghost use Rattle.std.specs.Prelude.{◌≡◌, ◌≢◌, ◌⊎◌, ◌<◌, ◌≤◌, ◌+◌, ◌^◌, ℕ, List, length, false, IsTrue, IsSome, IfSome, Err, OnOk, OnErr, IfErr};
 ghost use Rattle.std.specs.Io.KnownBytes.{Appends};
+ghost use Rattle.std.specs.Str.{IsUtf8};
 ghost use Rattle.op_causes.specs.Causes.{Rose};
 ghost use Rattle.op_desk.specs.Batches.{history_in};
 ghost use Rattle.op_desk.specs.Built.{is_built_task};
@@ -12,37 +13,29 @@ ghost use Rattle.op_model.specs.declared.act.Entry.{Entry};
 ghost use Rattle.op_model.specs.Meant.{meant};
 ghost use Rattle.op_model.specs.Printed.{is_built, is_built_refusal, printed};
 ghost use Rattle.op_model.specs.Session.{Final, Session, begun, settled};
-ghost use Rattle.op_model.specs.Turn.{nobody, refusal_reply};
+ghost use Rattle.op_model.specs.Turn.{refusal_reply};
+ghost use Rattle.op_model.specs.Verdicts.{verdict_of};
 ghost use Rattle.op_model.specs.declared.request.Task.TheVariants.{Ask};
 ghost use Rattle.op_model.specs.declared.end.End.TheVariants.{ReadFault, WriteFault, DiskFault, WordsFault};
 ghost use Rattle.op_ports.specs.Sink.{AppendsFront};
+ghost use Rattle.op_reply.specs.Printable.{IsPrintable};
 ghost use Rattle.op_cli.specs.Kept.{history_at, IsReady, Leaves, Kept};
 ghost use Rattle.op_cli.specs.Told.{world_of};
 ghost use Rattle.op_cli.specs.Turns.{here, Turns, Stops, IsFit, Handled, NotHandled, NotStood, Told, NotTold, NotWritten, Replies, ReplyFails, RefusalEnds, Unread};
 
 use crate::outside::Outside;
-use op_api::{ApiFault, disk_fault_reply, journal_full_reply, prepare, print_reply};
+use op_api::{ApiFault, disk_fault_reply, journal_full_reply, prepare};
 use op_desk::{Batch, Desk, RoundFault};
 use op_disk::Disk;
 use op_http::{HttpFault, RawRequest, Reader, write_all};
 use op_model::{End, Refusal, Reply, Request, Task, Verdict, Word};
-use op_ports::{Clock, Sink, Source, Words};
+use op_ports::{Clock, Sink, Source, Verifier, Words};
+use op_reply::print_reply;
 use op_time::Moment;
 use std::alloc::Global;
 
 /// The most requests of one session.
 const TURN_LIMIT: u64 = 1_000_000_000;
-
-/// Who asks is not looked at yet.
-fn nobody() -> Verdict
-    ensures { result ≡ nobody }
-{
-    Verdict {
-        client: None,
-        proved: false,
-        token: None,
-    }
-}
 
 /// Writes a reply after which the session ends so, unless the write fails.
 fn write_last<K: Sink>(sink: &mut K, text: &[u8], end: End) -> End
@@ -59,7 +52,8 @@ fn write_last<K: Sink>(sink: &mut K, text: &[u8], end: End) -> End
 
 /// The bytes of a reply. `None` where memory was wanting.
 fn text_of(alloc: Global, reply: Reply) -> Option<Vec<u8>>
-    requires { IsTrue (is_built reply.body) }
+    requires origin { IsUtf8 reply.origin }
+    requires built { IsTrue (is_built reply.body) }
     ensures { IfSome result (λ text. text.items ≡ printed reply) }
 {
     match print_reply(alloc, &reply) {
@@ -153,9 +147,9 @@ fn end_round<D: Disk, K: Sink>(
     ensures whole { OnOk result (history_at desk.new ≡ history_in round.batch) }
     ensures ready { OnOk result (IsReady D.tells desk.new (D.seen disk.new) (D.images disk.new)) }
     ensures told { OnOk result (Appends (K.written sink.old) (K.written sink.new) round.text.items) }
-    ensures stands { OnOk result (Leaves D.tells D.moment D.since D.images D.faults round.batch.begun (settled (history_in round.batch)) disk.old disk.new) }
+    ensures stands { OnOk result (Leaves D.tells D.seen D.moment D.since D.images D.faults round.batch.begun (settled (history_in round.batch)) disk.old disk.new) }
     ensures err { IfErr result (λ end. (final : Final) × NotStood round.batch.begun (history_in round.batch) (K.written sink.old) (K.written sink.new) round.text.items end final
-        × Leaves D.tells D.moment D.since D.images D.faults round.batch.begun final disk.old disk.new) }
+        × Leaves D.tells D.seen D.moment D.since D.images D.faults round.batch.begun final disk.old disk.new) }
     ensures disk_cause { result ≡ Err DiskFault → Rose (D.faults disk.old) (D.faults disk.new) }
     ensures disk_kept { result ≢ Err DiskFault → result ≢ Err WriteFault → D.faults disk.new ≡ D.faults disk.old }
     ensures write_cause { result ≡ Err WriteFault → Rose (K.faults sink.old) (K.faults sink.new) }
@@ -188,9 +182,9 @@ fn run_round<D: Disk, K: Sink>(
 
     ensures ok { OnOk result (Handled (history_at desk.old) (history_at desk.new) (K.written sink.old) (K.written sink.new) answer word.now task.now) }
     ensures ready { OnOk result (IsReady D.tells desk.new (D.seen disk.new) (D.images disk.new)) }
-    ensures stands { OnOk result (Leaves D.tells D.moment D.since D.images D.faults (history_at desk.old) (settled (history_at desk.new)) disk.old disk.new) }
+    ensures stands { OnOk result (Leaves D.tells D.seen D.moment D.since D.images D.faults (history_at desk.old) (settled (history_at desk.new)) disk.old disk.new) }
     ensures err { IfErr result (λ end. (final : Final) × NotHandled (history_at desk.old) (K.written sink.old) (K.written sink.new) answer word.now task.now end final
-        × Leaves D.tells D.moment D.since D.images D.faults (history_at desk.old) final disk.old disk.new) }
+        × Leaves D.tells D.seen D.moment D.since D.images D.faults (history_at desk.old) final disk.old disk.new) }
     ensures disk_cause { result ≡ Err DiskFault → Rose (D.faults disk.old) (D.faults disk.new) }
     ensures disk_kept { result ≢ Err DiskFault → result ≢ Err WriteFault → D.faults disk.new ≡ D.faults disk.old }
     ensures write_cause { result ≡ Err WriteFault → Rose (K.faults sink.old) (K.faults sink.new) }
@@ -206,6 +200,7 @@ fn run_round<D: Disk, K: Sink>(
 fn run_request<D: Disk, K: Sink>(
     alloc: Global,
     request: Request,
+    verdict: Verdict,
     answer: u64,
     word: &Word,
     desk: &mut Desk,
@@ -216,20 +211,17 @@ fn run_request<D: Disk, K: Sink>(
     requires sound { IsSound (history_at desk.old) }
     requires fit { IsFit request }
 
-    ensures ok { OnOk result (Handled (history_at desk.old) (history_at desk.new) (K.written sink.old) (K.written sink.new) answer word.now (Ask request nobody)) }
+    ensures ok { OnOk result (Handled (history_at desk.old) (history_at desk.new) (K.written sink.old) (K.written sink.new) answer word.now (Ask request verdict)) }
     ensures ready { OnOk result (IsReady D.tells desk.new (D.seen disk.new) (D.images disk.new)) }
-    ensures stands { OnOk result (Leaves D.tells D.moment D.since D.images D.faults (history_at desk.old) (settled (history_at desk.new)) disk.old disk.new) }
-    ensures err { IfErr result (λ end. (final : Final) × NotHandled (history_at desk.old) (K.written sink.old) (K.written sink.new) answer word.now (Ask request nobody) end final
-        × Leaves D.tells D.moment D.since D.images D.faults (history_at desk.old) final disk.old disk.new) }
+    ensures stands { OnOk result (Leaves D.tells D.seen D.moment D.since D.images D.faults (history_at desk.old) (settled (history_at desk.new)) disk.old disk.new) }
+    ensures err { IfErr result (λ end. (final : Final) × NotHandled (history_at desk.old) (K.written sink.old) (K.written sink.new) answer word.now (Ask request verdict) end final
+        × Leaves D.tells D.seen D.moment D.since D.images D.faults (history_at desk.old) final disk.old disk.new) }
     ensures disk_cause { result ≡ Err DiskFault → Rose (D.faults disk.old) (D.faults disk.new) }
     ensures disk_kept { result ≢ Err DiskFault → result ≢ Err WriteFault → D.faults disk.new ≡ D.faults disk.old }
     ensures write_cause { result ≡ Err WriteFault → Rose (K.faults sink.old) (K.faults sink.new) }
     ensures write_kept { result ≢ Err WriteFault → K.faults sink.new ≡ K.faults sink.old }
 {
-    let task = Task::Ask {
-        request,
-        verdict: nobody(),
-    };
+    let task = Task::Ask { request, verdict };
     run_round(alloc, &task, answer, word, desk, disk, sink)
 }
 
@@ -254,9 +246,10 @@ fn refuse_one<K: Sink>(
 }
 
 /// Answers a request, and writes its reply.
-fn answer_one<D: Disk, K: Sink>(
+fn answer_one<D: Disk, K: Sink, V: Verifier>(
     alloc: Global,
     raw: &RawRequest,
+    verifier: &V,
     answer: u64,
     word: &Word,
     desk: &mut Desk,
@@ -266,18 +259,20 @@ fn answer_one<D: Disk, K: Sink>(
     requires ready { IsReady D.tells desk.old (D.seen disk.old) (D.images disk.old) }
     requires sound { IsSound (history_at desk.old) }
 
-    ensures ok { OnOk result (Told (history_at desk.old) (history_at desk.new) (K.written sink.old) (K.written sink.new) answer word.now (meant raw.now)) }
+    ensures ok { OnOk result (Told (history_at desk.old) (history_at desk.new) (K.written sink.old) (K.written sink.new) (verdict_of (V.accepts verifier.now) raw.now) answer word.now (meant raw.now)) }
     ensures ready { OnOk result (IsReady D.tells desk.new (D.seen disk.new) (D.images disk.new)) }
-    ensures stands { OnOk result (Leaves D.tells D.moment D.since D.images D.faults (history_at desk.old) (settled (history_at desk.new)) disk.old disk.new) }
-    ensures err { IfErr result (λ end. (final : Final) × NotTold (history_at desk.old) (K.written sink.old) (K.written sink.new) answer word.now (meant raw.now) end final
-        × Leaves D.tells D.moment D.since D.images D.faults (history_at desk.old) final disk.old disk.new) }
+    ensures stands { OnOk result (Leaves D.tells D.seen D.moment D.since D.images D.faults (history_at desk.old) (settled (history_at desk.new)) disk.old disk.new) }
+    ensures err { IfErr result (λ end. (final : Final) × NotTold (history_at desk.old) (K.written sink.old) (K.written sink.new) (verdict_of (V.accepts verifier.now) raw.now) answer word.now (meant raw.now) end final
+        × Leaves D.tells D.seen D.moment D.since D.images D.faults (history_at desk.old) final disk.old disk.new) }
     ensures disk_cause { result ≡ Err DiskFault → Rose (D.faults disk.old) (D.faults disk.new) }
     ensures disk_kept { result ≢ Err DiskFault → result ≢ Err WriteFault → D.faults disk.new ≡ D.faults disk.old }
     ensures write_cause { result ≡ Err WriteFault → Rose (K.faults sink.old) (K.faults sink.new) }
     ensures write_kept { result ≢ Err WriteFault → K.faults sink.new ≡ K.faults sink.old }
 {
-    match prepare(alloc, raw) {
-        Ok(request) => run_request(alloc, request, answer, word, desk, disk, sink),
+    match prepare(alloc, raw, verifier) {
+        Ok((request, verdict)) => {
+            run_request(alloc, request, verdict, answer, word, desk, disk, sink)
+        }
         Err(ApiFault::Refused(refusal)) => refuse_one(alloc, refusal, desk, sink),
         Err(ApiFault::Memory) => refuse_one(alloc, Refusal::Memory, desk, sink),
     }
@@ -303,21 +298,22 @@ fn unread<K: Sink>(alloc: Global, fault: HttpFault, desk: &Desk, sink: &mut K) -
 }
 
 /// Asks the clock, draws a word, and answers a request.
-fn reply_to<D: Disk, S: Source, K: Sink, C: Clock, W: Words>(
+fn reply_to<D: Disk, S: Source, K: Sink, C: Clock, W: Words, V: Verifier>(
     alloc: Global,
     raw: &RawRequest,
     desk: &mut Desk,
-    outside: &mut Outside<D, S, K, C, W>,
+    outside: &mut Outside<D, S, K, C, W, V>,
 ) -> Result<(), End>
     requires ready { IsReady D.tells desk.old (D.seen outside.old.disk) (D.images outside.old.disk) }
     requires sound { IsSound (history_at desk.old) }
 
-    ensures ok { OnOk result (Replies (history_at desk.old) (history_at desk.new) (world_of S.left C.answers W.words K.written outside.old) (world_of S.left C.answers W.words K.written outside.new) raw.now) }
+    ensures ok { OnOk result (Replies (history_at desk.old) (history_at desk.new) (world_of S.left C.answers W.words K.written V.accepts outside.old) (world_of S.left C.answers W.words K.written V.accepts outside.new) raw.now) }
     ensures ready { OnOk result (IsReady D.tells desk.new (D.seen outside.new.disk) (D.images outside.new.disk)) }
-    ensures stands { OnOk result (Leaves D.tells D.moment D.since D.images D.faults (history_at desk.old) (settled (history_at desk.new)) outside.old.disk outside.new.disk) }
-    ensures err { IfErr result (λ end. (final : Final) × ReplyFails (history_at desk.old) (world_of S.left C.answers W.words K.written outside.old) (world_of S.left C.answers W.words K.written outside.new) raw.now end final
-        × Leaves D.tells D.moment D.since D.images D.faults (history_at desk.old) final outside.old.disk outside.new.disk) }
+    ensures stands { OnOk result (Leaves D.tells D.seen D.moment D.since D.images D.faults (history_at desk.old) (settled (history_at desk.new)) outside.old.disk outside.new.disk) }
+    ensures err { IfErr result (λ end. (final : Final) × ReplyFails (history_at desk.old) (world_of S.left C.answers W.words K.written V.accepts outside.old) (world_of S.left C.answers W.words K.written V.accepts outside.new) raw.now end final
+        × Leaves D.tells D.seen D.moment D.since D.images D.faults (history_at desk.old) final outside.old.disk outside.new.disk) }
     ensures source { outside.new.source ≡ outside.old.source }
+    ensures verifier { outside.new.verifier ≡ outside.old.verifier }
     ensures no_read_fault { result ≢ Err ReadFault }
     ensures disk_cause { result ≡ Err DiskFault → Rose (D.faults outside.old.disk) (D.faults outside.new.disk) }
     ensures disk_kept { result ≢ Err DiskFault → result ≢ Err WriteFault → D.faults outside.new.disk ≡ D.faults outside.old.disk }
@@ -331,6 +327,7 @@ fn reply_to<D: Disk, S: Source, K: Sink, C: Clock, W: Words>(
         Ok(word) => answer_one(
             alloc,
             raw,
+            &outside.verifier,
             answer,
             &word,
             desk,
@@ -342,22 +339,22 @@ fn reply_to<D: Disk, S: Source, K: Sink, C: Clock, W: Words>(
 }
 
 /// One turn.
-fn turn<D: Disk, S: Source, K: Sink, C: Clock, W: Words>(
+fn turn<D: Disk, S: Source, K: Sink, C: Clock, W: Words, V: Verifier>(
     alloc: Global,
     reader: &mut Reader,
     desk: &mut Desk,
-    outside: &mut Outside<D, S, K, C, W>,
+    outside: &mut Outside<D, S, K, C, W, V>,
 ) -> Result<(), End>
     requires at { reader.old.at < 2 ^ 60 }
     requires ready { IsReady D.tells desk.old (D.seen outside.old.disk) (D.images outside.old.disk) }
     requires sound { IsSound (history_at desk.old) }
 
-    ensures ok { OnOk result (Turns (here (history_at desk.old) reader.old (world_of S.left C.answers W.words K.written outside.old))
-        (here (history_at desk.new) reader.new (world_of S.left C.answers W.words K.written outside.new))) }
+    ensures ok { OnOk result (Turns (here (history_at desk.old) reader.old (world_of S.left C.answers W.words K.written V.accepts outside.old))
+        (here (history_at desk.new) reader.new (world_of S.left C.answers W.words K.written V.accepts outside.new))) }
     ensures ready { OnOk result (IsReady D.tells desk.new (D.seen outside.new.disk) (D.images outside.new.disk)) }
-    ensures stands { OnOk result (Leaves D.tells D.moment D.since D.images D.faults (history_at desk.old) (settled (history_at desk.new)) outside.old.disk outside.new.disk) }
-    ensures err { IfErr result (λ end. (final : Final) × Stops (here (history_at desk.old) reader.old (world_of S.left C.answers W.words K.written outside.old)) (world_of S.left C.answers W.words K.written outside.new) end final
-        × Leaves D.tells D.moment D.since D.images D.faults (history_at desk.old) final outside.old.disk outside.new.disk) }
+    ensures stands { OnOk result (Leaves D.tells D.seen D.moment D.since D.images D.faults (history_at desk.old) (settled (history_at desk.new)) outside.old.disk outside.new.disk) }
+    ensures err { IfErr result (λ end. (final : Final) × Stops (here (history_at desk.old) reader.old (world_of S.left C.answers W.words K.written V.accepts outside.old)) (world_of S.left C.answers W.words K.written V.accepts outside.new) end final
+        × Leaves D.tells D.seen D.moment D.since D.images D.faults (history_at desk.old) final outside.old.disk outside.new.disk) }
     ensures moved { OnOk result (reader.new.at ≤ reader.old.at + 81920) }
     ensures read_cause { result ≡ Err ReadFault → Rose (S.faults outside.old.source) (S.faults outside.new.source) }
     ensures read_kept { result ≢ Err ReadFault → S.faults outside.new.source ≡ S.faults outside.old.source }
@@ -376,16 +373,16 @@ fn turn<D: Disk, S: Source, K: Sink, C: Clock, W: Words>(
 }
 
 /// A session over the history of a desk: requests are answered in order, until it ends.
-pub fn session<D: Disk, S: Source, K: Sink, C: Clock, W: Words>(
+pub fn session<D: Disk, S: Source, K: Sink, C: Clock, W: Words, V: Verifier>(
     alloc: Global,
     mut desk: Desk,
-    outside: &mut Outside<D, S, K, C, W>,
+    outside: &mut Outside<D, S, K, C, W, V>,
 ) -> End
     requires ready { IsReady D.tells desk (D.seen outside.old.disk) (D.images outside.old.disk) }
     requires sound { IsSound (history_at desk) }
 
-    ensures session { (final : Final) × Session (begun (history_at desk) (world_of S.left C.answers W.words K.written outside.old)) (world_of S.left C.answers W.words K.written outside.new) result final
-        × Kept D.tells D.moment D.since D.images D.faults (history_at desk) final outside.old.disk outside.new.disk }
+    ensures session { (final : Final) × Session (begun (history_at desk) (world_of S.left C.answers W.words K.written V.accepts outside.old)) (world_of S.left C.answers W.words K.written V.accepts outside.new) result final
+        × Kept D.tells D.seen D.moment D.since D.images D.faults (history_at desk) final outside.old.disk outside.new.disk }
     ensures read_cause { result ≡ ReadFault → Rose (S.faults outside.old.source) (S.faults outside.new.source) }
     ensures read_kept { result ≢ ReadFault → S.faults outside.new.source ≡ S.faults outside.old.source }
     ensures disk_cause { result ≡ DiskFault → Rose (D.faults outside.old.disk) (D.faults outside.new.disk) }

@@ -1,8 +1,10 @@
 //! The top call over the forms in memory. Expected bytes are written out here, and were not taken from a run.
+ghost use Rattle.std.specs.Prelude.{false};
+
 use crate::outside::Outside;
 use crate::program::wallet_main;
 use op_disk::MemoryDisk;
-use op_ports::{MemorySink, MemorySource, TableClock, TableWords};
+use op_ports::{MemorySink, MemorySource, TableClock, TableWords, Verifier};
 use std::alloc::{AllocError, Global};
 use std::test::Fail;
 
@@ -26,6 +28,26 @@ const FRESH: &[u8] = b"OPWJ\x00\x00\x00\x01\x00";
 
 const WITH_USD: &[u8] =
     b"OPWJ\x00\x00\x00\x01\x01\x00\x00\x00\x10\x00\x00\x01\x8d\xf9\xe2\xb2\x00\x02\x00\x03USD\x02\x01\x00";
+
+/// No proof is one. No route that is built looks at proofs.
+#[derive(Drop)]
+struct NoProofs;
+
+impl Verifier for NoProofs {
+    ghost accepts = { λ verifier client method target body authorization proof. false };
+
+    fn verify(
+        &self,
+        _client: &[u8],
+        _method: &[u8],
+        _target: &[u8],
+        _body: &[u8],
+        _authorization: &[u8],
+        _proof: &[u8],
+    ) -> bool {
+        false
+    }
+}
 
 /// What a call came to.
 #[derive(Drop)]
@@ -74,6 +96,7 @@ fn apply(alloc: Global, input: &str, outdoors: Outdoors<'_>) -> Result<Run, Allo
         sink: MemorySink::new(Vec::new(alloc), piece, bad_writes),
         clock: TableClock::new(vec![in alloc; NOON]?),
         draws: TableWords::new(Vec::new(alloc), bad_draws),
+        verifier: NoProofs,
     };
     let mut words = Vec::new(alloc);
     words.push(String::from_str(alloc, "apply")?)?;
@@ -215,6 +238,11 @@ fn bodies_have_their_replies(rt: HostRuntime) -> Result<(), Fail> {
             "201 Created",
             "{\"assetCode\":\"EUR\",\"assetScale\":18,\"pieces\":1}",
         ),
+        (
+            "{\"assetCode\":\"USD\",\"assetScale\":2,\"assetCode\":\"EUR\"}",
+            "201 Created",
+            "{\"assetCode\":\"EUR\",\"assetScale\":2,\"pieces\":1}",
+        ),
     ];
     for (body, status, told) in rows {
         let input = request(rt.alloc(), body)?;
@@ -223,6 +251,32 @@ fn bodies_have_their_replies(rt: HostRuntime) -> Result<(), Fail> {
         assert_eq!(rt; run.status, 0);
         assert_eq!(rt; run.output.as_str(), output.as_str());
     }
+    Ok(())
+}
+
+#[test]
+fn a_body_of_65536_bytes_is_read(rt: HostRuntime) -> Result<(), Fail> {
+    let mut body = String::from_str(rt.alloc(), "{\"assetCode\":\"EUR\",\"assetScale\":2}")?;
+    for _space in 0..65502 {
+        body.push(' ')?;
+    }
+    let input = request(rt.alloc(), body.as_str())?;
+    let told = "{\"assetCode\":\"EUR\",\"assetScale\":2,\"pieces\":1}";
+    let output = reply(rt.alloc(), "201 Created", "", told)?;
+    let run = apply(rt.alloc(), input.as_str(), CALM)?;
+    assert_eq!(rt; run.status, 0);
+    assert_eq!(rt; run.output.as_str(), output.as_str());
+    Ok(())
+}
+
+#[test]
+fn other_fields_and_the_version_1_0_change_nothing(rt: HostRuntime) -> Result<(), Fail> {
+    let input =
+        "POST /admin/assets HTTP/1.0\r\nX-Any: y\r\ncontent-length: 34\r\n\r\n{\"assetCode\":\"USD\",\"assetScale\":2}";
+    let run = apply(rt.alloc(), input, CALM)?;
+    assert_eq!(rt; run.status, 0);
+    assert_eq!(rt; run.output.as_str(), ADDED);
+    assert_eq!(rt; run.journal.as_slice(), WITH_USD);
     Ok(())
 }
 
@@ -405,6 +459,7 @@ fn other_words_are_no_command(rt: HostRuntime) -> Result<(), Fail> {
             sink: MemorySink::new(Vec::new(alloc), 1, Vec::new(alloc)),
             clock: TableClock::new(Vec::new(alloc)),
             draws: TableWords::new(Vec::new(alloc), Vec::new(alloc)),
+            verifier: NoProofs,
         };
         let mut words = Vec::new(alloc);
         words.push(String::from_str(alloc, "apply")?)?;

@@ -1,6 +1,5 @@
 use Rattle.std.proofs.Common.{◌≡◌, ℕ, List, IsTrue, sym, subst, inr}
 use Rattle.op_causes.specs.Causes.{Rose}
-use Rattle.op_desk.proofs.Unique.{one_history}
 use Rattle.op_desk.specs.Spelling.{Spells}
 use Rattle.op_model.specs.declared.act.Entry.{Entry}
 use Rattle.op_cli.specs.Kept.{history_at}
@@ -26,7 +25,7 @@ returns-in-Ok-clause-replies g c =
       end = c.session.result;
       final = ran.0;
       found = found;
-      continues = λ told history spelled. one_history (g.D.Disk.seen old) first history (found told) spelled;
+      continues = λ told history spelled. whole_is c.in-Ok.desk history (c.in-Ok.ensures.alone told history spelled);
       session = ran.1;
       status = c.code_of.ensures;
       complete = complete _ _ first ran.0 c.session.result ran.1;
@@ -35,6 +34,7 @@ returns-in-Ok-clause-replies g c =
       legal = kept.sound.legal;
       at_exit = kept.at_exit;
       settled = λ none. kept.settled (λ rose. none (subst (λ (n : ℕ). Rose n (g.D.Disk.faults new)) calm rose));
+      unfit = kept.unfit;
       at_every_moment = λ told.
           let later = c.in-Ok.ensures.past_sync told (λ e. cc) in
           every_moment g.D.Disk.moment g.D.Disk.since first ran.0 (g.D.Disk.seen old) old opened new kept.begins kept.tried (found told) later (c.in-Ok.ensures.synced told later) (kept.stood told);

@@ -11,12 +11,12 @@ use Rattle.op_cli.proofs.session.session.Goals as goal
 
 pub loop-answered-init : goal.loop-answered-init
 loop-answered-init g c =
-    let world = world_of g.S.Source.left g.C.Clock.answers g.W.Words.words g.K.Sink.written c.args.outside.now in
+    let world = world_of g.S.Source.left g.C.Clock.answers g.W.Words.words g.K.Sink.written g.V.Verifier.accepts c.args.outside.now in
     let first = history_at c.args.desk in
     record {
       goes_on = λ after end final session.
           subst (λ (standing : Standing). Session standing after end final) (ap (λ (held : Held). here first held world 0) c.new-reader.ensures ∙ begins_fresh first world) session;
-      kept = kept_first g.D.Disk.tells g.D.Disk.moment g.D.Disk.since g.D.Disk.images g.D.Disk.faults g.met.D.Disk.only_now first c.args.outside.now.disk c.requires.sound c.requires.ready.spelled;
+      kept = kept_first g.D.Disk.tells g.D.Disk.seen g.D.Disk.moment g.D.Disk.since g.D.Disk.images g.D.Disk.faults g.met.D.Disk.only_now first c.args.outside.now.disk c.requires.sound c.requires.ready.spelled;
       ready = c.requires.ready;
       at = omega (arith, ap (λ (held : Held). held.at) c.new-reader.ensures);
       read_kept = refl;
@@ -35,7 +35,7 @@ loop-answered-preserved g c =
       goes_on = λ after end final rest.
           let step = turned n c.loop-answered-test.true in
           inv.goes_on after end final (one_more _ _ step.0 after end final step.1 rest);
-      kept = kept_more g.D.Disk.tells g.D.Disk.moment g.D.Disk.since g.D.Disk.images g.D.Disk.faults g.met.D.Disk.only_now (history_at c.args.desk) (history_at c.loop-answered.desk) (settled (history_at c.turn.new.desk)) c.args.outside.now.disk c.loop-answered.outside.disk c.turn.new.outside.disk
+      kept = kept_more g.D.Disk.tells g.D.Disk.seen g.D.Disk.moment g.D.Disk.since g.D.Disk.images g.D.Disk.faults g.met.D.Disk.only_now (history_at c.args.desk) (history_at c.loop-answered.desk) (settled (history_at c.turn.new.desk)) c.args.outside.now.disk c.loop-answered.outside.disk c.turn.new.outside.disk
           inv.kept inv.disk_kept c.in-Ok.ensures.stands;
       ready = c.in-Ok.ensures.ready;
       at = omega (arith, moved, inv.at);
@@ -51,7 +51,7 @@ returns-in-Err-clause-session g c =
     let ended = c.in-Err.ensures.err in (
       ended.0,
       inv.goes_on _ _ _ (at_once _ _ _ ended.0 (ended.1 c.loop-answered._answered c.loop-answered-test.true)),
-      kept_more g.D.Disk.tells g.D.Disk.moment g.D.Disk.since g.D.Disk.images g.D.Disk.faults g.met.D.Disk.only_now (history_at c.args.desk) (history_at c.loop-answered.desk) ended.0 c.args.outside.now.disk c.loop-answered.outside.disk c.turn.new.outside.disk
+      kept_more g.D.Disk.tells g.D.Disk.seen g.D.Disk.moment g.D.Disk.since g.D.Disk.images g.D.Disk.faults g.met.D.Disk.only_now (history_at c.args.desk) (history_at c.loop-answered.desk) ended.0 c.args.outside.now.disk c.loop-answered.outside.disk c.turn.new.outside.disk
           inv.kept inv.disk_kept ended.2,
     )
 
