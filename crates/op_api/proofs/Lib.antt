@@ -1,6 +1,7 @@
-mod Constant
+mod Clients
+mod ConstantReplies
+mod Fields
 mod Heads
 mod Names
 mod Objects
 mod Routes
-mod Said

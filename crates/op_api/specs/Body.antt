@@ -1,5 +1,6 @@
 -- What reading a request answers.
 use Rattle.std.specs.Prelude.{◌≡◌, ℕ, List, ⊤, IsTrue, Some, None, Ok, Err, MatchResult}
+use Rattle.std.specs.Str.{IsUtf8}
 use Rattle.std.specs.declared.result.Result.{Result}
 use Rattle.op_http.specs.declared.route.RouteFault.{RouteFault}
 use Rattle.op_http.specs.declared.route.RouteFault.TheVariants as routes
@@ -9,6 +10,7 @@ use Rattle.op_model.specs.declared.reply.ReplyBody.TheVariants as model
 use Rattle.op_model.specs.declared.reply.Refusal.{Refusal}
 use Rattle.op_model.specs.declared.reply.Refusal.TheVariants.{NotFound, MethodNotAllowed, BadJson, BadField}
 use Rattle.op_model.specs.declared.request.Request.{Request}
+use Rattle.op_model.specs.declared.request.Verdict.{Verdict}
 use Rattle.op_api.specs.declared.request.ApiFault.{ApiFault}
 use Rattle.op_api.specs.declared.request.ApiFault.TheVariants.{Refused, Memory}
 use Rattle.serde_json.specs.View.{view}
@@ -32,10 +34,27 @@ IsRefusedAs meant Memory = ⊤
 abbrev pub IsMeant : Result Request Refusal → Result Request ApiFault → Type 0
 IsMeant meant result = MatchResult result (λ request. meant ≡ Ok request) (IsRefusedAs meant)
 
+-- the request that was read, whoever asks
+abbrev pub request_of : Result (Request × Verdict) ApiFault → Result Request ApiFault
+request_of (Ok (request, verdict)) = Ok request
+request_of (Err fault) = Err fault
+
 -- the refusal has a printed form
 abbrev pub IsPrintable : ApiFault → Type 0
 IsPrintable (Refused refusal) = IsTrue (is_built (model.Refused refusal))
 IsPrintable Memory = ⊤
+
+-- one of the refusals that reading a request gives; the name that it tells is a text
+abbrev pub IsReadRefusal : Refusal → Type 0
+IsReadRefusal NotFound = ⊤
+IsReadRefusal (MethodNotAllowed allow) = ⊤
+IsReadRefusal BadJson = ⊤
+IsReadRefusal (BadField name) = IsUtf8 name
+IsReadRefusal _ = ⊥
+
+abbrev pub IsRead : ApiFault → Type 0
+IsRead (Refused refusal) = IsReadRefusal refusal
+IsRead Memory = ⊤
 
 -- the body is this object, or it is none
 abbrev pub IsNoObject : List ℕ → ApiFault → Type 0

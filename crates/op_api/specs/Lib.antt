@@ -1,3 +1,2 @@
 pub mod Body
-pub mod Print
 pub mod Routes

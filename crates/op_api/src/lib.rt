@@ -1,9 +1,11 @@
-//! HTTP and JSON both ways: the request that a raw one means, and the bytes of a reply (RFC 8259, RFC 9110).
+//! What a request as it came asks for, and who asks: its path, its body as JSON (RFC 8259), and the fields that tell of
+//! its client and its token.
 #![tactic(auto)]
 
 mod body;
-mod print;
+mod constant;
 mod request;
+mod verdict;
 
-pub use print::{disk_fault_reply, journal_full_reply, print_reply};
+pub use constant::{disk_fault_reply, journal_full_reply};
 pub use request::{ApiFault, prepare};

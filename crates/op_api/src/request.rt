@@ -1,13 +1,17 @@
 //! Requests as they came, and what they mean.
-ghost use Rattle.std.specs.Prelude.{◌≡◌, IfErr};
+ghost use Rattle.std.specs.Prelude.{◌≡◌, IfOk, IfErr};
 ghost use Rattle.op_model.specs.Meant.{meant};
-ghost use Rattle.op_api.specs.Body.{IsMeant, IsPrintable, refusal_of};
+ghost use Rattle.op_model.specs.Verdicts.{verdict_of};
+ghost use Rattle.op_api.specs.Body.{IsMeant, IsPrintable, IsRead, refusal_of, request_of};
 ghost use Rattle.op_api.specs.Routes.{asked_on};
+ghost use Rattle.op_api.specs.declared.request.ApiFault.TheVariants.{Memory};
 
 use crate::body::read_asset;
+use crate::verdict::verdict_of;
 use op_http::{RawRequest, Route, RouteFault, find_route};
-use op_model::{Refusal, Request};
-use std::alloc::Global;
+use op_model::{Refusal, Request, Verdict};
+use op_ports::Verifier;
+use std::alloc::{AllocError, Global};
 
 /// Why a request is not understood.
 #[derive(Drop)]
@@ -16,6 +20,14 @@ pub enum ApiFault {
     Refused(Refusal),
     /// Memory was wanting while it was read.
     Memory,
+}
+
+impl From<AllocError> for ApiFault {
+    ghost from_gives = { λ error fault. fault ≡ Memory };
+
+    fn from(_: AllocError) -> ApiFault {
+        ApiFault::Memory
+    }
 }
 
 /// The refusal of a request that has no route.
@@ -35,6 +47,7 @@ fn unrouted(fault: RouteFault) -> ApiFault
 fn on_route(alloc: Global, route: &Route, raw: &RawRequest) -> Result<Request, ApiFault>
     ensures meant { IsMeant (asked_on route.now raw.now) result }
     ensures printable { IfErr result IsPrintable }
+    ensures read { IfErr result IsRead }
 {
     match route {
         Route::AddAsset => read_asset(alloc, raw.body()),
@@ -43,18 +56,36 @@ fn on_route(alloc: Global, route: &Route, raw: &RawRequest) -> Result<Request, A
 }
 
 /// The request that this one means, by its method, target and body.
+fn read_request(alloc: Global, raw: &RawRequest) -> Result<Request, ApiFault>
+    ensures meant { IsMeant (meant raw.now) result }
+    ensures printable { IfErr result IsPrintable }
+    ensures read { IfErr result IsRead }
+{
+    match find_route(alloc, raw) {
+        Ok(route) => on_route(alloc, &route, raw),
+        Err(fault) => Err(unrouted(fault)),
+    }
+}
+
+/// The request that this one means, by its method, target and body, and who asks, by its fields. Who asks is not looked
+/// at where it means none.
 ///
 /// # Errors
 ///
 /// `Refused` exactly where it means none: `NotFound` where no route has its path, or the route is not built yet,
 /// `MethodNotAllowed` where the path has other methods, `BadJson` where its body is no object, `BadField` with the first
 /// member that is missing or breaks its form. `Memory` where memory was wanting.
-pub fn prepare(alloc: Global, raw: &RawRequest) -> Result<Request, ApiFault>
-    ensures meant { IsMeant (meant raw.now) result }
+pub fn prepare<V: Verifier>(
+    alloc: Global,
+    raw: &RawRequest,
+    verifier: &V,
+) -> Result<(Request, Verdict), ApiFault>
+    ensures meant { IsMeant (meant raw.now) (request_of result) }
+    ensures asker { IfOk result (λ asked. asked.1 ≡ verdict_of (V.accepts verifier.now) raw.now) }
     ensures printable { IfErr result IsPrintable }
+    ensures read { IfErr result IsRead }
 {
-    match find_route(alloc, raw) {
-        Ok(route) => on_route(alloc, &route, raw),
-        Err(fault) => Err(unrouted(fault)),
-    }
+    let request = read_request(alloc, raw)?;
+    let verdict = verdict_of(alloc, raw, verifier)?;
+    Ok((request, verdict))
 }

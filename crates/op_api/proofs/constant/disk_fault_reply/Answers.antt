@@ -1,8 +1,8 @@
 use Rattle.std.proofs.Common.{codes, refl}
 use Rattle.json.specs.Print.{escape_byte}
 use Rattle.op_model.specs.Printed.{error}
-use Rattle.op_api.proofs.Constant.{size_31, said_of}
-use Rattle.op_api.proofs.print.disk_fault_reply.Goals as goal
+use Rattle.op_api.proofs.ConstantReplies.{size_31, said_of}
+use Rattle.op_api.proofs.constant.disk_fault_reply.Goals as goal
 
 pub returns : goal.returns
 unfolding escape_byte

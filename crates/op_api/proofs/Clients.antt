@@ -1,0 +1,23 @@
+-- A client is a text.
+use Rattle.std.proofs.Common.{◌≡◌, ◌<◌, ℕ, zero, suc, true, None, List, [], ◌∷◌, IsUtf8, refl, inl, inr, arith}
+use Rattle.std.proofs.lemmas.Bool.{and_parts, cases_Bool, leb-true}
+use Rattle.std.proofs.lemmas.Str.{IsUtf8-from_ascii}
+use Rattle.std.specs.List.{list_all}
+use Rattle.std.specs.Str.{IsAscii}
+use Rattle.op_names.specs.Forms.{is_visible, is_word, is_web, is_client}
+use Rattle.op_names.specs.Names.{text_if}
+
+visible_is_ascii : (b : ℕ) → is_visible b ≡ true → b < 128
+visible_is_ascii b e = omega (arith, leb-true b 126 (and_parts _ _ e).1)
+
+IsAscii-from_visible : (text : List ℕ) → list_all is_visible text ≡ true → IsAscii text
+IsAscii-from_visible [] e i = omega arith
+IsAscii-from_visible (b ∷ text) e zero = visible_is_ascii b (and_parts _ _ e).0
+IsAscii-from_visible (b ∷ text) e (suc i) = IsAscii-from_visible text (and_parts _ _ e).1 i
+
+-- what is no text is no client
+pub no_client : (text : List ℕ) → ¬ (IsUtf8 text) → text_if is_client text ≡ None
+no_client text strange = elim (cases_Bool (is_client text)) [
+  | inl e ↦ absurd (strange (IsUtf8-from_ascii text (IsAscii-from_visible text (and_parts _ _ (and_parts _ (is_web text) e).0).1)))
+  | inr e ↦ rw e refl
+]
