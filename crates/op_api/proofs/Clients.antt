@@ -4,7 +4,7 @@ use Rattle.std.proofs.lemmas.Bool.{and_parts, cases_Bool, leb-true}
 use Rattle.std.proofs.lemmas.Str.{IsUtf8-from_ascii}
 use Rattle.std.specs.List.{list_all}
 use Rattle.std.specs.Str.{IsAscii}
-use Rattle.op_names.specs.Forms.{is_visible, is_word, is_web, is_client}
+use Rattle.op_names.specs.Forms.{is_visible, is_web, is_client}
 use Rattle.op_names.specs.Names.{text_if}
 
 visible_is_ascii : (b : ℕ) → is_visible b ≡ true → b < 128

@@ -1,12 +1,9 @@
 -- Names that have a printed form.
 use Rattle.std.proofs.Common.{List, ℕ, IsTrue, IsUtf8}
-use Rattle.std.proofs.lemmas.Str.{IsUtf8-from_is_utf8, is_utf8-from_IsUtf8}
+use Rattle.std.proofs.lemmas.Str.{is_utf8-from_IsUtf8}
 use Rattle.op_model.specs.Printed.{is_built}
 use Rattle.op_model.specs.declared.reply.ReplyBody.TheVariants.{Refused}
 use Rattle.op_model.specs.declared.reply.Refusal.TheVariants.{BadField}
-
-pub is_text : (name : List ℕ) → IsTrue (is_built (Refused (BadField name))) → IsUtf8 name
-is_text name h = IsUtf8-from_is_utf8 name h
 
 -- a text has a printed form
 pub is_printable : (name : List ℕ) → IsUtf8 name → IsTrue (is_built (Refused (BadField name)))

@@ -45,16 +45,16 @@ IsPrintable (Refused refusal) = IsTrue (is_built (model.Refused refusal))
 IsPrintable Memory = ⊤
 
 -- one of the refusals that reading a request gives; the name that it tells is a text
-abbrev pub IsReadRefusal : Refusal → Type 0
-IsReadRefusal NotFound = ⊤
-IsReadRefusal (MethodNotAllowed allow) = ⊤
-IsReadRefusal BadJson = ⊤
-IsReadRefusal (BadField name) = IsUtf8 name
-IsReadRefusal _ = ⊥
+abbrev pub IsReadingRefusal : Refusal → Type 0
+IsReadingRefusal NotFound = ⊤
+IsReadingRefusal (MethodNotAllowed allow) = ⊤
+IsReadingRefusal BadJson = ⊤
+IsReadingRefusal (BadField name) = IsUtf8 name
+IsReadingRefusal _ = ⊥
 
-abbrev pub IsRead : ApiFault → Type 0
-IsRead (Refused refusal) = IsReadRefusal refusal
-IsRead Memory = ⊤
+abbrev pub IsReadingFault : ApiFault → Type 0
+IsReadingFault (Refused refusal) = IsReadingRefusal refusal
+IsReadingFault Memory = ⊤
 
 -- the body is this object, or it is none
 abbrev pub IsNoObject : List ℕ → ApiFault → Type 0

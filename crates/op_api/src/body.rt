@@ -3,7 +3,7 @@ ghost use Rattle.std.specs.Prelude.{◌≡◌, ◌⊎◌, IfErr, option_map};
 ghost use Rattle.serde_json.specs.View.{view};
 ghost use Rattle.op_model.specs.Json.{number_of, optional_in, with_members};
 ghost use Rattle.op_model.specs.Members.{code_in, scale_in, pieces_in, asset_asked};
-ghost use Rattle.op_api.specs.Body.{IsMeant, IsObject, IsPrintable, IsRead, bad_member};
+ghost use Rattle.op_api.specs.Body.{IsMeant, IsObject, IsPrintable, IsReadingFault, bad_member};
 
 use crate::request::ApiFault;
 use op_amount::{Asset, AssetCode};
@@ -18,7 +18,7 @@ const SCALE_LIMIT: u64 = 18;
 fn object_in(alloc: Global, body: &[u8]) -> Result<Value, ApiFault>
     ensures object { IsObject body.now result }
     ensures built { IfErr result IsPrintable }
-    ensures read { IfErr result IsRead }
+    ensures forms { IfErr result IsReadingFault }
 {
     match Value::from_slice(alloc, body) {
         Ok(value) => {
@@ -91,7 +91,7 @@ fn pieces_in(object: &Value) -> Option<u8>
 fn bad_member(alloc: Global, name: &str) -> ApiFault
     ensures named { (result ≡ bad_member name.now) ⊎ (result ≡ ApiFault.Memory) }
     ensures built { IsPrintable result }
-    ensures read { IsRead result }
+    ensures forms { IsReadingFault result }
 {
     match Vec::from_slice(alloc, name.as_bytes()) {
         Ok(bytes) => ApiFault::Refused(Refusal::BadField {
@@ -105,7 +105,7 @@ fn bad_member(alloc: Global, name: &str) -> ApiFault
 pub fn read_asset(alloc: Global, body: &[u8]) -> Result<Request, ApiFault>
     ensures meant { IsMeant (with_members asset_asked body.now) result }
     ensures built { IfErr result IsPrintable }
-    ensures read { IfErr result IsRead }
+    ensures forms { IfErr result IsReadingFault }
 {
     let object = object_in(alloc, body)?;
     let Some(code) = code_in(&object) else {

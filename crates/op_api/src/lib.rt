@@ -5,6 +5,8 @@
 mod body;
 mod constant;
 mod request;
+#[cfg(test)]
+mod tests;
 mod verdict;
 
 pub use constant::{disk_fault_reply, journal_full_reply};

@@ -2,7 +2,7 @@
 ghost use Rattle.std.specs.Prelude.{◌≡◌, IfOk, IfErr};
 ghost use Rattle.op_model.specs.Meant.{meant};
 ghost use Rattle.op_model.specs.Verdicts.{verdict_of};
-ghost use Rattle.op_api.specs.Body.{IsMeant, IsPrintable, IsRead, refusal_of, request_of};
+ghost use Rattle.op_api.specs.Body.{IsMeant, IsPrintable, IsReadingFault, refusal_of, request_of};
 ghost use Rattle.op_api.specs.Routes.{asked_on};
 ghost use Rattle.op_api.specs.declared.request.ApiFault.TheVariants.{Memory};
 
@@ -47,7 +47,7 @@ fn unrouted(fault: RouteFault) -> ApiFault
 fn on_route(alloc: Global, route: &Route, raw: &RawRequest) -> Result<Request, ApiFault>
     ensures meant { IsMeant (asked_on route.now raw.now) result }
     ensures printable { IfErr result IsPrintable }
-    ensures read { IfErr result IsRead }
+    ensures forms { IfErr result IsReadingFault }
 {
     match route {
         Route::AddAsset => read_asset(alloc, raw.body()),
@@ -59,7 +59,7 @@ fn on_route(alloc: Global, route: &Route, raw: &RawRequest) -> Result<Request, A
 fn read_request(alloc: Global, raw: &RawRequest) -> Result<Request, ApiFault>
     ensures meant { IsMeant (meant raw.now) result }
     ensures printable { IfErr result IsPrintable }
-    ensures read { IfErr result IsRead }
+    ensures forms { IfErr result IsReadingFault }
 {
     match find_route(alloc, raw) {
         Ok(route) => on_route(alloc, &route, raw),
@@ -81,9 +81,9 @@ pub fn prepare<V: Verifier>(
     verifier: &V,
 ) -> Result<(Request, Verdict), ApiFault>
     ensures meant { IsMeant (meant raw.now) (request_of result) }
-    ensures asker { IfOk result (λ asked. asked.1 ≡ verdict_of (V.accepts verifier.now) raw.now) }
+    ensures asker { IfOk result (λ (request, verdict). verdict ≡ verdict_of (V.accepts verifier.now) raw.now) }
     ensures printable { IfErr result IsPrintable }
-    ensures read { IfErr result IsRead }
+    ensures forms { IfErr result IsReadingFault }
 {
     let request = read_request(alloc, raw)?;
     let verdict = verdict_of(alloc, raw, verifier)?;

@@ -1,6 +1,8 @@
 //! Who asks: the client, the proof that it holds its key, and its token.
 ghost use Rattle.std.specs.Prelude.{◌≡◌, Some, IfOk, codes};
+ghost use Rattle.std.specs.List.{find};
 ghost use Rattle.std.specs.Option.{option_copied};
+ghost use Rattle.std.specs.Str.{str_eq_ignore_ascii_case};
 ghost use Rattle.op_names.specs.Forms.{is_client};
 ghost use Rattle.op_names.specs.Names.{text_if};
 ghost use Rattle.op_model.specs.Verdicts.{value_of, authorization_of, token_in, token_of, client_of, is_accepted, verdict_of};
@@ -12,11 +14,18 @@ use op_ports::Verifier;
 use std::alloc::{AllocError, Global};
 use std::str;
 
-/// The value of the first field of this name, whatever its case (RFC 9110, section 5.1).
+/// The first field of this name, whatever its case (RFC 9110, section 5.1).
+fn first_named<'a>(raw: &'a RawRequest, name: &[u8]) -> Option<&'a Field>
+    ensures { option_copied result ≡ find (λ (field, value). str_eq_ignore_ascii_case field name.now) raw.now.fields }
+{
+    raw.fields().iter().find(|field| field.is_named(name))
+}
+
+/// The value of the first field of this name.
 fn value_of<'a>(raw: &'a RawRequest, name: &[u8]) -> Option<&'a [u8]>
     ensures { option_copied result ≡ value_of name.now raw.now }
 {
-    let field = raw.fields().iter().find(|field| field.is_named(name))?;
+    let field = first_named(raw, name)?;
     Some(field.value())
 }
 
