@@ -1,6 +1,7 @@
 #!/bin/sh
 # The program's exit statuses, its output and its one line on standard error. Run after `make wallet`.
 set -u
+unset OP_WALLET_MASTER
 cd "$(dirname "$0")/.." || exit 1
 wallet=bin/wallet
 folder=$(mktemp -d)
@@ -60,6 +61,33 @@ run apply "$(head -c 4097 /dev/zero | tr '\0' j)" < crates/wallet/stdin
 check 'a name of 4097 bytes' 2 "$usage"
 run apply "$(head -c 4096 /dev/zero | tr '\0' j)" < /dev/null
 check 'a file that cannot be opened: its name is too long' 5 "wallet: a call on the journal's file failed"
+
+# malformed NAME SECRET: the program ends before it reads a byte, and before it makes a journal
+malformed() {
+    fresh
+    {
+        OP_WALLET_MASTER="$2" "$wallet" apply "$folder/journal" > "$folder/out" 2> "$folder/err"
+        status=$?
+        cat > "$folder/rest"
+    } < crates/wallet/stdin
+    check "$1" 2 "$usage"
+    if [ -e "$folder/journal" ] || ! cmp -s "$folder/rest" crates/wallet/stdin; then
+        echo "FAILED  $1: the input was read, or a journal was made"
+        failed=1
+    fi
+}
+
+digits=0123456789abcdefABCDEF98765432100123456789abcdefABCDEF9876543210
+malformed 'an empty master secret' ''
+malformed 'a master secret of 63 digits' "${digits%?}"
+malformed 'a master secret of 65 digits' "${digits}0"
+malformed 'a master secret with a letter that is no digit' "${digits%?}g"
+malformed 'a master secret that is no text' "$(printf '\377\376')"
+
+fresh
+OP_WALLET_MASTER=$digits "$wallet" apply "$folder/journal" < /dev/null > "$folder/out" 2> "$folder/err"
+status=$?
+check 'a master secret of 64 digits in either case' 0 ''
 
 printf 'OPWJ\0\0\0\002\0\0' > "$folder/journal"
 run apply "$folder/journal" < crates/wallet/stdin

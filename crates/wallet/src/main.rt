@@ -1,16 +1,36 @@
 //! The program: it makes the edges, calls `wallet_main`, and exits with its status.
 #![tactic(auto)]
 
+ghost use Rattle.std.specs.Prelude.{◌≡◌, ◌≢◌, ◌↔◌, ◌⊎◌, IfOk, drop, false, map, option_copied, string_bytes};
+ghost use Rattle.std.specs.Vec.Iter.{into_iter_items};
+ghost use Rattle.std.specs.IoError.{error_kind};
+ghost use Rattle.std.specs.declared.io.ErrorKind.TheVariants.{InvalidData};
+ghost use Rattle.op_model.specs.Program.{is_command};
+ghost use Rattle.wallet.specs.Statuses.{line_of};
+ghost use Rattle.wallet.specs.Words.{journal_of};
+
+mod master;
+
+use master::{MasterFault, master_secret};
+use op_access::HmacVerifier;
 use op_cli::{Outside, wallet_main};
 use op_disk::FileDisk;
 use op_ports::{ReadSource, SystemClock, SystemWords, WriteSink};
+use std::alloc::{AllocError, Global};
+use std::env::Args;
 use std::process::ExitCode;
 use std::rt::Env;
 use std::{env, io};
 
+/// The status where the words are no command, or the environment holds no master secret.
+const USAGE: u8 = 2;
+
+/// The status where memory was wanting.
+const OUT_OF_MEMORY: u8 = 8;
+
 fn main(rt: HostRuntime) -> ExitCode {
     let status = match words_after_name(&rt) {
-        Ok(words) => run(&rt, &words),
+        Ok(words) => start(&rt, &words),
         Err(fault) => status_without_words(&fault),
     };
     if let Some(line) = line_for(status) {
@@ -21,35 +41,54 @@ fn main(rt: HostRuntime) -> ExitCode {
 
 /// The words after the program's name.
 fn words_after_name<R: Env + AllocGlobal>(rt: &R) -> io::Result<Vec<String>> {
-    let mut words = Vec::new(rt.alloc());
-    for word in env::args(rt)?.skip(1) {
-        words.push(word)?;
-    }
-    Ok(words)
+    Ok(after_first(rt.alloc(), env::args(rt)?)?)
+}
+
+/// The words behind the first one.
+fn after_first(alloc: Global, words: Args) -> Result<Vec<String>, AllocError>
+    ensures { IfOk result (λ rest. rest.items ≡ drop 1 (into_iter_items words)) }
+{
+    words.skip(1).collect(alloc)
 }
 
 /// The status where the words cannot be read: words that are no text are no command, and else memory was wanting.
-fn status_without_words(fault: &io::Error) -> u8 {
+fn status_without_words(fault: &io::Error) -> u8
+    ensures no_text { (result ≡ 2) ↔ (error_kind fault.now ≡ InvalidData) }
+    ensures memory { error_kind fault.now ≢ InvalidData → result ≡ 8 }
+{
     match fault.kind() {
-        io::ErrorKind::InvalidData => 2,
-        _ => 8,
+        io::ErrorKind::InvalidData => USAGE,
+        _ => OUT_OF_MEMORY,
     }
 }
 
-/// The name of the journal's file: the second word, or nothing.
-fn journal_name<R: AllocGlobal>(rt: &R, words: &[String]) -> io::Result<String> {
-    let name = match words.get(1) {
-        Some(word) => word.as_str(),
-        None => "",
-    };
-    Ok(String::from_str(rt.alloc(), name)?)
+/// The command, where the environment holds a master secret.
+fn start(rt: &HostRuntime, words: &[String]) -> u8 {
+    match master_secret(rt) {
+        Ok(master) => run(rt, words, master),
+        Err(fault) => status_without_master(fault),
+    }
 }
 
-/// The command over the journal's file, standard input, standard output, the system's clock and its random bytes. The
-/// file is opened at the first call on it.
-fn run(rt: &HostRuntime, words: &[String]) -> u8 {
-    let Ok(journal) = journal_name(rt, words) else {
-        return 8;
+/// The status where there is no master secret.
+fn status_without_master(fault: MasterFault) -> u8
+    ensures malformed { (result ≡ 2) ↔ (fault ≡ MasterFault.Malformed) }
+    ensures memory { (result ≡ 8) ↔ (fault ≡ MasterFault.Memory) }
+{
+    match fault {
+        MasterFault::Malformed => USAGE,
+        MasterFault::Memory => OUT_OF_MEMORY,
+    }
+}
+
+/// The command over the journal's file, standard input, standard output, the system's clock and its random bytes, and
+/// the key proofs of this master secret. The file is opened at the first call on it. No route that is built asks for a key proof, so nothing takes the master secret.
+fn run(rt: &HostRuntime, words: &[String], master: [u8; 32]) -> u8
+    ensures usage { result ≡ 2 → is_command (map string_bytes words.now) ≡ false }
+    ensures usage_where { is_command (map string_bytes words.now) ≡ false → (result ≡ 2) ⊎ (result ≡ 8) }
+{
+    let Ok(journal) = journal_name(rt.alloc(), words) else {
+        return OUT_OF_MEMORY;
     };
     let mut outside = Outside {
         disk: FileDisk::new(rt, journal),
@@ -57,12 +96,25 @@ fn run(rt: &HostRuntime, words: &[String]) -> u8 {
         sink: WriteSink::new(io::writer(rt)),
         clock: SystemClock::new(rt),
         draws: SystemWords::new(rt),
+        verifier: HmacVerifier::new(master),
     };
     wallet_main(rt.alloc(), words, &mut outside)
 }
 
+/// The name of the journal's file: the second word, or nothing.
+fn journal_name(alloc: Global, words: &[String]) -> Result<String, AllocError>
+    ensures { IfOk result (λ name. string_bytes name ≡ journal_of (map string_bytes words.now)) }
+{
+    match words {
+        [_, journal, ..] => String::from_str(alloc, journal.as_str()),
+        _ => Ok(String::new(alloc)),
+    }
+}
+
 /// What a status means, in one line: none where all went well.
-fn line_for(status: u8) -> Option<&'static str> {
+fn line_for(status: u8) -> Option<&'static str>
+    ensures { option_copied result ≡ line_of status }
+{
     match status {
         0 => None,
         2 => Some("usage: wallet apply JOURNAL"),
