@@ -14,6 +14,9 @@ use op_ports::Verifier;
 use std::alloc::{AllocError, Global};
 use std::str;
 
+/// What stands before a token, in any case (RFC 9635, section 7.2).
+const SCHEME: [u8; 5] = *b"GNAP ";
+
 /// The first field of this name, whatever its case (RFC 9110, section 5.1).
 fn first_named<'a>(raw: &'a RawRequest, name: &[u8]) -> Option<&'a Field>
     ensures { option_copied result ≡ find (λ (field, value). str_eq_ignore_ascii_case field name.now) raw.now.fields }
@@ -41,8 +44,8 @@ fn authorization_of(raw: &RawRequest) -> Option<&[u8]>
 fn token_in(value: &[u8]) -> Option<SecretText>
     ensures { result ≡ token_in value.now }
 {
-    let (scheme, token) = value.split_at_checked(5)?;
-    if scheme.eq_ignore_ascii_case(b"GNAP ") {
+    let (scheme, token) = value.split_at_checked(SCHEME.len())?;
+    if scheme.eq_ignore_ascii_case(&SCHEME) {
         SecretText::from_bytes(token)
     } else {
         None
