@@ -1,13 +1,13 @@
 -- Replies of a built form on a legal history have a printed form.
-use Rattle.std.proofs.Common.{◌≡◌, ◌<◌, ◌++◌, ℕ, zero, suc, true, List, [], ◌∷◌, IsTrue, IfSome, Some, None, codes, unwrap_or, IsUtf8, refl, subst, arith}
+use Rattle.std.proofs.Common.{◌≡◌, ◌<◌, ◌++◌, ℕ, zero, suc, true, List, [], ◌∷◌, IsTrue, IfSome, Some, None, codes, unwrap_or, IsUtf8, refl, arith}
 use Rattle.std.specs.declared.option.Option.{Option}
 use Rattle.std.specs.List.{list_all, last_or, cons_option}
 use Rattle.std.specs.Str.{IsAscii}
 use Rattle.std.proofs.lemmas.Bool.{and_parts, leb-true}
 use Rattle.std.proofs.lemmas.Str.{IsUtf8-from_ascii, IsUtf8-from_is_utf8}
-use Rattle.op_names.specs.Forms.{is_visible, is_word, is_web, is_origin}
+use Rattle.op_names.specs.Forms.{is_visible, is_web, is_origin}
 use Rattle.op_model.specs.History.{origin_of, origin_set, origins}
-use Rattle.op_model.specs.Legal.{IsNext, IsLegal, IsLegalFrom, asked_by, is_proper}
+use Rattle.op_model.specs.Legal.{IsLegal, IsLegalFrom, asked_by, is_proper}
 use Rattle.op_model.specs.Printed.{is_built}
 use Rattle.op_model.specs.declared.act.Act.{Act}
 use Rattle.op_model.specs.declared.act.Act.TheVariants.{OriginSet}

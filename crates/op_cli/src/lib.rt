@@ -4,6 +4,7 @@
 //! over the bytes that were read, and what the journal's disk spells at every moment.
 #![tactic(auto)]
 
+mod laws;
 mod outside;
 mod program;
 mod session;
@@ -11,5 +12,6 @@ mod session;
 mod tests;
 mod words;
 
+pub use laws::calls_are_one_history;
 pub use outside::Outside;
 pub use program::{plain_main, wallet_main};

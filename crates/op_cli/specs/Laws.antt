@@ -1,0 +1,23 @@
+-- What holds of calls in a row.
+use Rattle.std.specs.Prelude.{◌≡◌, ◌⊎◌, ℕ, Bool, List, IsTrue}
+use Rattle.op_causes.specs.Causes.{Rose}
+use Rattle.op_model.specs.World.{World}
+use Rattle.op_cli.specs.Applies.{RunsOn}
+
+module _ {D : Type 0} (tells : Bool) (seen : D → List ℕ) (moment : D → ℕ) (since : D → ℕ → List ℕ → Type 0) (images : D → List ℕ → Type 0) (faults : D → ℕ) where
+  -- Where a call opened the journal and its disk did not fail, the next call that opens it begins with the history that stood
+  -- at the end of the first, also where a crash came between the two.
+  abbrev pub CallsAreOneHistory : Type 0
+  CallsAreOneHistory =
+      (old new next last : D) (before after before' after' : World) (code code' : ℕ)
+      → (first : RunsOn tells seen moment since images faults old new before after code)
+      → (second : RunsOn tells seen moment since images faults next last before' after' code')
+      → IsTrue tells → images new (seen next) → ¬ Rose (faults old) (faults new) → second.first ≡ first.final.stands
+
+  -- where it failed, perhaps with the round that was tried
+  abbrev pub CallsGoOn : Type 0
+  CallsGoOn =
+      (old new next last : D) (before after before' after' : World) (code code' : ℕ)
+      → (first : RunsOn tells seen moment since images faults old new before after code)
+      → (second : RunsOn tells seen moment since images faults next last before' after' code')
+      → IsTrue tells → images new (seen next) → (second.first ≡ first.final.stands) ⊎ (second.first ≡ first.final.tried)
