@@ -6,3 +6,6 @@ mod Lists
 mod Objects
 mod Redirects
 mod Tables
+mod WorkedForms
+mod WorkedPurchase
+mod WorkedReplies
