@@ -15,9 +15,12 @@ IsAscii-from_visible [] e i = omega arith
 IsAscii-from_visible (b ∷ text) e zero = visible_is_ascii b (and_parts _ _ e).0
 IsAscii-from_visible (b ∷ text) e (suc i) = IsAscii-from_visible text (and_parts _ _ e).1 i
 
+pub IsUtf8-from_visible : (text : List ℕ) → list_all is_visible text ≡ true → IsUtf8 text
+IsUtf8-from_visible text e = IsUtf8-from_ascii text (IsAscii-from_visible text e)
+
 -- what is no text is no client
 pub no_client : (text : List ℕ) → ¬ (IsUtf8 text) → text_if is_client text ≡ None
 no_client text strange = elim (cases_Bool (is_client text)) [
-  | inl e ↦ absurd (strange (IsUtf8-from_ascii text (IsAscii-from_visible text (and_parts _ _ (and_parts _ (is_web text) e).0).1)))
+  | inl e ↦ absurd (strange (IsUtf8-from_visible text (and_parts _ _ (and_parts _ (is_web text) e).0).1))
   | inr e ↦ rw e refl
 ]

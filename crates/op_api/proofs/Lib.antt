@@ -1,4 +1,4 @@
-mod Clients
+pub mod Clients
 mod ConstantReplies
 mod Fields
 mod Heads

@@ -1,5 +1,5 @@
 -- Bodies that are objects, and bodies that are none.
-use Rattle.std.proofs.Common.{◌≡◌, List, ℕ, true, false, Some, None, is_some, IsUtf8, refl, inl, inr}
+use Rattle.std.proofs.Common.{◌≡◌, List, ℕ, true, Some, None, is_some, IsUtf8, refl, inl, inr}
 use Rattle.std.specs.Prelude.{option_and_then}
 use Rattle.std.specs.declared.option.Option.{Option}
 use Rattle.std.proofs.lemmas.Bool.{cases_Bool}
@@ -14,15 +14,8 @@ if_some : {M : Type 0} (d : Data) (o : Option M) → is_some o ≡ true → opti
 if_some d None e = absurd cc
 if_some d (Some m) e = refl
 
-if_none : {M : Type 0} (d : Data) (o : Option M) → is_some o ≡ false → option_and_then (λ m. Some d) o ≡ None
-if_none d None e = refl
-if_none d (Some m) e = absurd cc
-
 pub is_object : (body : List ℕ) (d : Data) → IsUtf8 body → read body ≡ Some d → is_some (as_object d) ≡ true → object_in body ≡ Some d
 is_object body d u r o = rw (is_utf8-from_IsUtf8 body u, r) (if_some d (as_object d) o)
-
-pub is_no_object : (body : List ℕ) (d : Data) → IsUtf8 body → read body ≡ Some d → is_some (as_object d) ≡ false → object_in body ≡ None
-is_no_object body d u r o = rw (is_utf8-from_IsUtf8 body u, r) (if_none d (as_object d) o)
 
 pub is_unread : (body : List ℕ) → (IsUtf8 body → read body ≡ None) → object_in body ≡ None
 is_unread body h = elim (cases_Bool (is_utf8 body)) [

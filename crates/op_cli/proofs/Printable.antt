@@ -1,11 +1,11 @@
 -- Replies of a built form on a legal history have a printed form.
-use Rattle.std.proofs.Common.{◌≡◌, ◌<◌, ◌++◌, ℕ, zero, suc, true, List, [], ◌∷◌, IsTrue, IfSome, Some, None, codes, unwrap_or, IsUtf8, refl, arith}
+use Rattle.std.proofs.Common.{◌≡◌, ◌++◌, ℕ, true, List, [], ◌∷◌, IsTrue, IfSome, Some, None, codes, unwrap_or, IsUtf8, refl}
 use Rattle.std.specs.declared.option.Option.{Option}
-use Rattle.std.specs.List.{list_all, last_or, cons_option}
-use Rattle.std.specs.Str.{IsAscii}
-use Rattle.std.proofs.lemmas.Bool.{and_parts, leb-true}
-use Rattle.std.proofs.lemmas.Str.{IsUtf8-from_ascii, IsUtf8-from_is_utf8}
-use Rattle.op_names.specs.Forms.{is_visible, is_web, is_origin}
+use Rattle.std.specs.List.{last_or, cons_option}
+use Rattle.std.proofs.lemmas.Bool.{and_parts}
+use Rattle.std.proofs.lemmas.Str.{IsUtf8-from_is_utf8}
+use Rattle.op_names.specs.Forms.{is_web, is_origin}
+use Rattle.op_api.proofs.Clients.{IsUtf8-from_visible}
 use Rattle.op_model.specs.History.{origin_of, origin_set, origins}
 use Rattle.op_model.specs.Legal.{IsLegal, IsLegalFrom, asked_by, is_proper}
 use Rattle.op_model.specs.Printed.{is_built}
@@ -21,16 +21,8 @@ use Rattle.op_reply.specs.Printable.{IsRefusalText, IsBodyText, IsPrintable}
 
 -- ---- origins are visible ASCII
 
-visible_is_ascii : (b : ℕ) → is_visible b ≡ true → b < 128
-visible_is_ascii b e = omega (arith, leb-true b 126 (and_parts _ _ e).1)
-
-IsAscii-from_visible : (text : List ℕ) → list_all is_visible text ≡ true → IsAscii text
-IsAscii-from_visible [] e i = omega arith
-IsAscii-from_visible (b ∷ text) e zero = visible_is_ascii b (and_parts _ _ e).0
-IsAscii-from_visible (b ∷ text) e (suc i) = IsAscii-from_visible text (and_parts _ _ e).1 i
-
 origin_text : (origin : List ℕ) → is_origin origin ≡ true → IsUtf8 origin
-origin_text origin e = IsUtf8-from_ascii origin (IsAscii-from_visible origin (and_parts _ _ (and_parts _ (is_web origin) (and_parts _ _ e).0).0).1)
+origin_text origin e = IsUtf8-from_visible origin (and_parts _ _ (and_parts _ (is_web origin) (and_parts _ _ e).0).0).1
 
 -- ---- the origin of a legal history is one, or the first
 
@@ -51,7 +43,7 @@ origin_from o before (e ∷ es) was (next, legal) =
     last_set o (origin_set e.act) (origins es) was (set_proper before e.act next.proper) (λ p is. origin_from p (before ++ e ∷ []) es is legal)
 
 set_text : (o : Option (List ℕ)) → IfSome o IsOrigin → IsUtf8 (unwrap_or o (codes "https://wallet.example"))
-set_text None is = IsUtf8-from_ascii (codes "https://wallet.example") (IsAscii-from_visible (codes "https://wallet.example") refl)
+set_text None is = IsUtf8-from_visible (codes "https://wallet.example") refl
 set_text (Some origin) is = origin_text origin is
 
 pub legal_origin : (history : List Entry) → IsLegal history → IsUtf8 (origin_of history)
