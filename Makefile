@@ -1,6 +1,6 @@
 # What a newcomer needs: `make demo` and `make test`. Both build what is missing.
 
-.PHONY: demo test wallet
+.PHONY: demo test wallet bench
 
 SOURCES := crates.txt $(shell find crates -path '*/out' -prune -o -type f -print)
 
@@ -22,3 +22,7 @@ test:
 	rt ci
 	$(MAKE) bin/wallet
 	sh checks/program.sh
+
+# Not part of the gate: what requests on a journal on disk cost, beside a C program that makes the same calls.
+bench: bin/wallet
+	python3 scripts/bench.py
