@@ -1,6 +1,6 @@
 -- What an opening leaves, and what stands behind it.
 use Rattle.std.proofs.Common.{◌≡◌, ◌≤◌, ◌<◌, ◌+◌, ℕ, List, [], ◌∷◌, ◌++◌, length, map, refl, sym, ap, subst, ◌∙◌, inl, inr, arith}
-use Rattle.op_desk.specs.Spelling.{Spells, history_of, records}
+use Rattle.op_desk.specs.Spelling.{Spells, SpellsRounds, history_of, records, opening_calls}
 use Rattle.op_journal.specs.Frames as frames
 use Rattle.op_journal.specs.Recovered.{IsOldOrShort}
 use Rattle.op_model.specs.Session.{Final}
@@ -29,16 +29,19 @@ pub old_or_short_spells : (seen c : List ℕ) (first : List Entry) → Spells fi
 old_or_short_spells seen c first s (inl same) = subst (λ (d : List ℕ). Spells first d) (sym same) s
 old_or_short_spells seen c first s (inr (short, is)) = subst (λ (h : List Entry). Spells h c) (sym (short_spells seen first short s)) (spells_short c is)
 
-module _ {D : Type 0} (moment : D → ℕ) (since : D → ℕ → List ℕ → Type 0) where
-  pub every_moment : (first : List Entry) (final : Final) (seen : List ℕ) (old opened new : D) → (more : List Entry) × (final.stands ≡ first ++ more) → (rest : List Entry) × (final.tried ≡ final.stands ++ rest)
-      → Spells first seen → moment old + 1 < moment opened → ((c : List ℕ) → since opened (moment old + 1) c → IsOldOrShort (λ d. d ≡ seen) seen c) → Stood moment since first final opened new → EveryMoment moment since first final old new
-  every_moment first final seen old opened new begins tried s later synced stood = record {
+module _ {D : Type 0} (seen : D → List ℕ) (moment : D → ℕ) (since : D → ℕ → List ℕ → Type 0) where
+  pub every_moment : (first : List Entry) (final : Final) (old opened new : D) → (more : List Entry) × (final.stands ≡ first ++ more) → (rest : List Entry) × (final.tried ≡ final.stands ++ rest)
+      → Spells first (seen old) → moment old + 1 < moment opened → ((c : List ℕ) → since opened (moment old + 1) c → IsOldOrShort (λ d. d ≡ seen old) (seen old) c)
+      → (rounds : List (List Entry)) × SpellsRounds rounds (seen old) × (moment opened ≡ moment old + opening_calls (length rounds) (seen old)) → Stood moment since first final opened new → EveryMoment seen moment since first final old new
+  every_moment first final old opened new begins tried s later synced (rounds, found, calls) stood = record {
+    rounds = rounds;
+    found = found;
     opened = moment opened;
-    synced_before = later;
+    opening = calls;
     prefix = λ c there. elim (stood.before (moment old + 1) c (omega (arith, later)) there) [
       | inl opening ↦
           subst (λ (h : List Entry). SpellsAtLeast (length first) h c) (sym (tried.1 ∙ ap (λ (h : List Entry). h ++ tried.0) begins.1))
-          (spells_longer (length first) (first ++ begins.0) tried.0 c (spells_longer (length first) first begins.0 c (spells_all (length first) first c (omega arith) (old_or_short_spells seen c first s (synced c opening)))))
+          (spells_longer (length first) (first ++ begins.0) tried.0 c (spells_longer (length first) first begins.0 c (spells_all (length first) first c (omega arith) (old_or_short_spells (seen old) c first s (synced c opening)))))
       | inr left ↦ left
     ];
     each = stood.each;

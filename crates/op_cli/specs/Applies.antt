@@ -1,12 +1,12 @@
 -- What a call of `apply` comes to: the journal is not opened, or a session on the history that its disk spells.
-use Rattle.std.specs.Prelude.{◌≡◌, ◌⊎◌, ◌≤◌, ◌<◌, ◌+◌, ◌-◌, ◌*◌, ℕ, Bool, List, ◌++◌, length, IsTrue}
+use Rattle.std.specs.Prelude.{◌≡◌, ◌⊎◌, ◌≤◌, ◌+◌, ◌-◌, ◌*◌, ℕ, Bool, List, ◌++◌, length, IsTrue}
 use Rattle.op_causes.specs.Causes.{Rose}
-use Rattle.op_desk.specs.Spelling.{Spells}
+use Rattle.op_desk.specs.Spelling.{Spells, SpellsRounds, opening_calls}
+use Rattle.op_desk.specs.Wallets.{IsSound}
 use Rattle.op_desk.specs.declared.fault.DeskFault.{DeskFault}
 use Rattle.op_desk.specs.declared.fault.DeskFault.TheVariants as faults
 use Rattle.op_disk.specs.Calls.{LeavesOnly}
 use Rattle.op_journal.specs.Recovered.{IsOldOrShort}
-use Rattle.op_model.specs.Legal.{IsLegal}
 use Rattle.op_model.specs.Program.{code_of, illegal_code}
 use Rattle.op_model.specs.Session.{Final, Session, begun, IsCompleteKnown}
 use Rattle.op_model.specs.World.{World}
@@ -29,12 +29,15 @@ pub record DoesNotOpen {D : Type 0} (tells : Bool) (seen : D → List ℕ) (mome
   pub untouched : after ≡ before
   pub at_every_moment : IsTrue tells → LeavesOnly moment since old new (IsOldOrShort (images old) (seen old))
 
--- From the opening's first sync on, a crash leaves the history that was found and some of what was added. After the session's
--- first 4k calls, and at every moment from there on, it leaves at least k entries more. Each entry that stands has taken four
--- calls, and there were no other calls but those of a last commit that failed.
-pub record EveryMoment {D : Type 0} (moment : D → ℕ) (since : D → ℕ → List ℕ → Type 0) (first : List Entry) (final : Final) (old new : D) : Type 0 where
+-- Opening takes so many calls on the disk, by the frames that there were. From its first sync on, a crash leaves the history that
+-- was found and some of what was added. After the session's first 4k calls, and at every moment from there on, it leaves at least
+-- k entries more. Each entry that stands has taken four calls, and there were no other calls but those of a last commit that
+-- failed.
+pub record EveryMoment {D : Type 0} (seen : D → List ℕ) (moment : D → ℕ) (since : D → ℕ → List ℕ → Type 0) (first : List Entry) (final : Final) (old new : D) : Type 0 where
+  pub rounds : List (List Entry)
+  pub found : SpellsRounds rounds (seen old)
   pub opened : ℕ
-  pub synced_before : moment old + 1 < opened
+  pub opening : opened ≡ moment old + opening_calls (length rounds) (seen old)
   pub prefix : (c : List ℕ) → since new (moment old + 1) c → SpellsAtLeast (length first) final.tried c
   pub each : (k : ℕ) (c : List ℕ) → k ≤ length final.stands - length first → since new (opened + 4 * k) c → SpellsAtLeast (length first + k) final.tried c
   pub least : opened + 4 * (length final.stands - length first) ≤ moment new
@@ -51,13 +54,14 @@ pub record RunsOn {D : Type 0} (tells : Bool) (seen : D → List ℕ) (moment : 
   pub session : Session (begun first before) after end final
   pub status : code ≡ code_of end
   pub complete : IsCompleteKnown end session.turns final before after
-  -- what stands goes on from there, and is legal, with the round that a failed commit may have left
+  -- what stands goes on from there, and is legal and made of acts that are built, with the round that a failed commit may have
+  -- left
   pub stands : (more : List Entry) × (final.stands ≡ first ++ more)
   pub tried : (rest : List Entry) × (final.tried ≡ final.stands ++ rest)
-  pub legal : IsLegal final.tried
+  pub sound : IsSound final.tried
   -- a crash at the end leaves what stands; only where the disk failed, perhaps with that round
   pub at_exit : IsTrue tells → (c : List ℕ) → images new c → Spells final.stands c ⊎ Spells final.tried c
   pub settled : ¬ Rose (faults old) (faults new) → final.tried ≡ final.stands
   -- where a round is told not to fit, the journal as it stands has no room for it
   pub unfit : IsUnfit tells final (seen new)
-  pub at_every_moment : IsTrue tells → EveryMoment moment since first final old new
+  pub at_every_moment : IsTrue tells → EveryMoment seen moment since first final old new

@@ -1,6 +1,8 @@
 -- What holds of calls in a row.
 use Rattle.std.specs.Prelude.{◌≡◌, ◌⊎◌, ℕ, Bool, List, IsTrue}
 use Rattle.op_causes.specs.Causes.{Rose}
+use Rattle.op_desk.specs.Spelling.{SpellsSound}
+use Rattle.op_model.specs.declared.act.Entry.{Entry}
 use Rattle.op_model.specs.World.{World}
 use Rattle.op_cli.specs.Applies.{RunsOn}
 
@@ -14,10 +16,16 @@ module _ {D : Type 0} (tells : Bool) (seen : D → List ℕ) (moment : D → ℕ
       → (second : RunsOn tells seen moment since images faults next last before' after' code')
       → IsTrue tells → images new (seen next) → ¬ Rose (faults old) (faults new) → second.first ≡ first.final.stands
 
-  -- where it failed, perhaps with the round that was tried
+  -- where its disk may have failed, perhaps with the round that was tried
   abbrev pub CallsGoOn : Type 0
   CallsGoOn =
       (old new next last : D) (before after before' after' : World) (code code' : ℕ)
       → (first : RunsOn tells seen moment since images faults old new before after code)
       → (second : RunsOn tells seen moment since images faults next last before' after' code')
       → IsTrue tells → images new (seen next) → (second.first ≡ first.final.stands) ⊎ (second.first ≡ first.final.tried)
+
+  -- what a call leaves is a legal history of acts that are built, so the next call does not find it illegal
+  abbrev pub CallsLeaveLegal : Type 0
+  CallsLeaveLegal =
+      (old new next : D) (before after : World) (code : ℕ) → (first : RunsOn tells seen moment since images faults old new before after code)
+      → IsTrue tells → images new (seen next) → (history : List Entry) × SpellsSound history (seen next)

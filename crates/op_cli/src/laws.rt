@@ -1,11 +1,13 @@
 //! The law of calls in a row. The function does nothing: its contract is the law.
-ghost use Rattle.op_cli.specs.Laws.{CallsAreOneHistory, CallsGoOn};
+ghost use Rattle.op_cli.specs.Laws.{CallsAreOneHistory, CallsGoOn, CallsLeaveLegal};
 
 use op_disk::Disk;
 
-/// Two calls on one disk are one history: the second begins with what stood at the end of the first, also where a crash
-/// came between the two. Only where the disk failed in the first, the round that was tried may stand too.
+/// Two calls that open one journal are one history: the second begins with what stood at the end of the first, also where
+/// a crash came between the two. Only where the disk failed in the first, the round that was tried may stand too. And what
+/// the first leaves is legal, so the second does not end for an illegal journal.
 pub fn calls_are_one_history<D: Disk>()
     ensures settled { CallsAreOneHistory D.tells D.seen D.moment D.since D.images D.faults }
     ensures tried { CallsGoOn D.tells D.seen D.moment D.since D.images D.faults }
+    ensures legal { CallsLeaveLegal D.tells D.seen D.moment D.since D.images D.faults }
 {}

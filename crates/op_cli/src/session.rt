@@ -18,7 +18,6 @@ ghost use Rattle.op_model.specs.Verdicts.{verdict_of};
 ghost use Rattle.op_model.specs.declared.request.Task.TheVariants.{Ask};
 ghost use Rattle.op_model.specs.declared.end.End.TheVariants.{ReadFault, WriteFault, DiskFault, WordsFault};
 ghost use Rattle.op_ports.specs.Sink.{AppendsFront};
-ghost use Rattle.op_reply.specs.Printable.{IsPrintable};
 ghost use Rattle.op_cli.specs.Kept.{history_at, IsReady, Leaves, Kept};
 ghost use Rattle.op_cli.specs.Told.{world_of};
 ghost use Rattle.op_cli.specs.Turns.{here, Turns, Stops, IsFit, Handled, NotHandled, NotStood, Told, NotTold, NotWritten, Replies, ReplyFails, RefusalEnds, Unread};

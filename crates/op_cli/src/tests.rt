@@ -158,6 +158,24 @@ fn empty_input(rt: HostRuntime) -> Result<(), Fail> {
 }
 
 #[test]
+fn what_stands_behind_a_closed_gate_is_left_alone(rt: HostRuntime) -> Result<(), Fail> {
+    let journal = b"OPWJ\x00\x00\x00\x01\x07\xaa\xbb\xcc".as_slice();
+    let run = apply(rt.alloc(), "", Outdoors { journal, ..CALM })?;
+    assert_eq!(rt; run.status, 0);
+    assert_eq!(rt; run.journal.as_slice(), journal);
+    Ok(())
+}
+
+#[test]
+fn five_zero_bytes_are_a_fresh_journal(rt: HostRuntime) -> Result<(), Fail> {
+    let journal = [0; 5].as_slice();
+    let run = apply(rt.alloc(), "", Outdoors { journal, ..CALM })?;
+    assert_eq!(rt; run.status, 0);
+    assert_eq!(rt; run.journal.as_slice(), FRESH);
+    Ok(())
+}
+
+#[test]
 fn a_second_call_knows_what_the_first_did(rt: HostRuntime) -> Result<(), Fail> {
     let first = apply(rt.alloc(), ADD, CALM)?;
     assert_eq!(rt; first.output.as_str(), ADDED);
@@ -178,6 +196,11 @@ fn bodies_have_their_replies(rt: HostRuntime) -> Result<(), Fail> {
             "{\"error\":{\"code\":\"bad_json\"}}",
         ),
         ("", "400 Bad Request", "{\"error\":{\"code\":\"bad_json\"}}"),
+        (
+            "{",
+            "400 Bad Request",
+            "{\"error\":{\"code\":\"bad_json\"}}",
+        ),
         (
             "{\"assetCode\":\"USD\",",
             "400 Bad Request",
@@ -324,6 +347,11 @@ fn requests_without_a_route_that_is_built(rt: HostRuntime) -> Result<(), Fail> {
 #[test]
 fn a_rest_that_is_no_request_is_refused(rt: HostRuntime) -> Result<(), Fail> {
     let rows = [
+        (
+            "X",
+            "400 Bad Request",
+            "{\"error\":{\"at\":0,\"code\":\"bad_http\"}}",
+        ),
         (
             "GET /alice HT",
             "400 Bad Request",

@@ -37,7 +37,7 @@ pub read_none : (old seen : List ℕ) (images : List ℕ → Type 0) (size : ℕ
 read_none old seen images size opened found holds = record { opened = opened; found = found; rounds = []; have = tt; holds = holds; is = refl }
 
 -- one frame more
-pub read_more : (old seen new : List ℕ) (images now : List ℕ → Type 0) (size size' gate next : ℕ) (history grown : List Entry) (payload : List ℕ) → HasRead old seen images size gate history
+unfoldable pub read_more : (old seen new : List ℕ) (images now : List ℕ → Type 0) (size size' gate next : ℕ) (history grown : List Entry) (payload : List ℕ) → HasRead old seen images size gate history
     → new ≡ seen → IsFound size' new now → ((payloads : List (List ℕ)) → Holds payloads gate seen → Holds (payloads ++ payload ∷ []) next new) → IsRound payload history grown → HasRead old new now size' next grown
 read_more old seen new images now size size' gate next history grown payload read same found holds round = record {
   opened = subst (λ (l : List ℕ). Opened old l) (sym same) read.opened;
@@ -136,7 +136,7 @@ payload_due old faults.Memory of broken illegal = inl tt
 
 -- ---- at the end
 
-pub spells_all : (old seen : List ℕ) (images : List ℕ → Type 0) (size gate : ℕ) (history : List Entry) (read : HasRead old seen images size gate history) → SpellsUpTo (map records read.rounds) gate seen → Spells history old
+unfoldable pub spells_all : (old seen : List ℕ) (images : List ℕ → Type 0) (size gate : ℕ) (history : List Entry) (read : HasRead old seen images size gate history) → SpellsUpTo (map records read.rounds) gate seen → Spells history old
 spells_all old seen images size gate history read upto = (
   read.rounds,
   record {

@@ -1,5 +1,5 @@
 -- What a disk spells: a history, as the records of its rounds, each round in a frame of the journal.
-use Rattle.std.specs.Prelude.{◌≡◌, ◌⊎◌, ◌<◌, ◌+◌, ℕ, List, [], ◌∷◌, ◌++◌, length, map}
+use Rattle.std.specs.Prelude.{◌≡◌, ◌⊎◌, ◌<◌, ◌+◌, ◌*◌, ℕ, nat_le, if◌then◌else◌, List, [], ◌∷◌, ◌++◌, length, map}
 use Rattle.std.specs.List.{flat_map, AllByRecursion}
 use Rattle.op_model.specs.declared.act.Entry.{Entry}
 use Rattle.op_record.specs.Cuts.{HasRecord}
@@ -35,6 +35,11 @@ pub record SpellsSound (history : List Entry) (bytes : List ℕ) : Type 0 where
   pub spells : Spells history bytes
   pub sound : IsSound history
 
+-- How many calls on the disk opening it takes: a sync, its length, and its header, or where it is short a write and a sync; three
+-- for each frame; and one for the gate behind them.
+abbrev pub opening_calls : (frames : ℕ) → List ℕ → ℕ
+opening_calls frames bytes = (if nat_le (length bytes) 9 then 4 else 3) + (3 * frames + 1)
+
 -- The disk stands as a journal with its closed gate at the tail says: the frames in front of it are those of these rounds, and a
 -- crash leaves them and the closed gate.
 pub record Stands (rounds : List (List Entry)) (tail : ℕ) (seen : List ℕ) (images : List ℕ → Type 0) : Type 0 where
@@ -42,8 +47,8 @@ pub record Stands (rounds : List (List Entry)) (tail : ℕ) (seen : List ℕ) (i
   pub holds : frames.Holds (map records rounds) tail seen
   pub settled : IsSettled tail seen images
 
--- Bytes spell a history, and the round that would make this longer one of it has no room: the header, the frames with its own
--- behind them, and a gate behind that pass the journal's limit.
+-- Bytes spell the first history, and the round that would make it the second has no room behind their frames: with its frame
+-- and the gate behind that the journal passes its limit.
 pub record LacksRoom (before after : List Entry) (bytes : List ℕ) : Type 0 where
   pub rounds : List (List Entry)
   pub spelled : SpellsRounds rounds bytes

@@ -10,7 +10,7 @@ ghost use Rattle.op_model.specs.History.{last_moment};
 ghost use Rattle.op_model.specs.declared.act.Entry.{Entry};
 ghost use Rattle.op_desk.specs.Batches.{DeskValue, IsWhole, history_in};
 ghost use Rattle.op_desk.specs.Reading.{Fails, IsFree};
-ghost use Rattle.op_desk.specs.Spelling.{Spells, SpellsSound, SpellsRounds, SpellsEither, LacksRoom, Stands, with_round, history_of, records};
+ghost use Rattle.op_desk.specs.Spelling.{Spells, SpellsSound, SpellsRounds, SpellsEither, LacksRoom, Stands, with_round, history_of, records, opening_calls};
 ghost use Rattle.op_desk.specs.Wallets.{WalletValue, IsSound};
 
 use crate::batch::{Batch, Committed, Round};
@@ -60,6 +60,8 @@ impl Desk {
         ensures refused { IfErr result (λ e. IsTrue D.tells → IsFree e ⊎ Fails e (D.seen disk.old)) }
         ensures refused_where { (fault : _) → IsTrue D.tells → Fails fault (D.seen disk.old) → IsErrAnd result (λ e. (e ≡ fault) ⊎ IsFree e) }
         ensures opened_where { (history : List Entry) → IsTrue D.tells → SpellsSound history (D.seen disk.old) → IfErr result IsFree }
+        // The calls on the disk, by the frames that it had.
+        ensures calls { IfOk result (λ desk. IsTrue D.tells → (rounds : List (List Entry)) × SpellsRounds rounds (D.seen disk.old) × (D.moment disk.new ≡ D.moment disk.old + opening_calls (length rounds) (D.seen disk.old))) }
         // At every moment.
         ensures any_moment { IsTrue D.tells → LeavesOnly D.moment D.since disk.old disk.new (IsOldOrShort (D.images disk.old) (D.seen disk.old)) }
         ensures synced { IsTrue D.tells → D.moment disk.old + 1 < D.moment disk.new → (c : List ℕ) → D.since disk.new (D.moment disk.old + 1) c → IsOldOrShort (λ d. d ≡ D.seen disk.old) (D.seen disk.old) c }

@@ -1,5 +1,5 @@
 // Opening a journal on any disk, and reading its frames.
-ghost use Rattle.std.specs.Prelude.{◌≡◌, ◌≢◌, ◌⊎◌, ◌+◌, ◌<◌, ◌≤◌, ◌∷◌, ◌++◌, [], ℕ, List, length, take, drop, IsTrue, IfOk, IfErr, OnErr, IsErrOf, Ok, true, false, nat_le, if◌then◌else◌};
+ghost use Rattle.std.specs.Prelude.{◌≡◌, ◌≢◌, ◌⊎◌, ◌+◌, ◌<◌, ◌≤◌, ◌∷◌, ◌++◌, [], ℕ, List, length, take, drop, IsTrue, IfOk, IfErr, OnOk, OnErr, IsErrOf, Ok, true, false, nat_le, if◌then◌else◌};
 ghost use Rattle.std.specs.Int.{w32, to_be_bytes, from_be_bytes};
 ghost use Rattle.op_causes.specs.Causes.{Rose};
 ghost use Rattle.op_disk.specs.Calls.{LeavesOnly, NoMore, Only};
@@ -129,6 +129,9 @@ impl Recovery {
         ensures seen { D.seen disk.new ≡ D.seen disk.old }
         ensures found { IsTrue D.tells → IsFound self.new.length (D.seen disk.new) (D.images disk.new) }
         ensures any_moment { IsTrue D.tells → LeavesOnly D.moment D.since disk.old disk.new (λ c. c ≡ D.seen disk.old) }
+        // A frame is read by three calls, and a gate that is not open by one.
+        ensures calls { result ≡ Ok true → D.moment disk.new ≡ D.moment disk.old + 3 }
+        ensures last_call { result ≡ Ok false → D.moment disk.new ≡ D.moment disk.old + 1 }
         ensures cause { (IsErrOf result JournalFault.DiskFault → ⊥) → D.faults disk.new ≡ D.faults disk.old }
         ensures fault { IsErrOf result JournalFault.DiskFault → Rose (D.faults disk.old) (D.faults disk.new) }
         ensures refusals { IfErr result (λ e. e ≢ JournalFault.BadHeader) }
@@ -180,6 +183,7 @@ fn read_range<D: Disk>(
     ensures seen { D.seen disk.new ≡ D.seen disk.old }
     ensures crash { NoMore (D.images disk.old) (D.images disk.new) }
     ensures any_moment { LeavesOnly D.moment D.since disk.old disk.new (D.images disk.old) }
+    ensures calls { OnOk result (D.moment disk.new ≡ D.moment disk.old + 1) }
     ensures cause { (IsErrOf result JournalFault.DiskFault → ⊥) → D.faults disk.new ≡ D.faults disk.old }
     ensures counted { D.faults disk.old ≤ D.faults disk.new }
     ensures fault { IsErrOf result JournalFault.DiskFault → Rose (D.faults disk.old) (D.faults disk.new) }

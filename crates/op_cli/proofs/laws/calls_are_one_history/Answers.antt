@@ -1,4 +1,8 @@
-use Rattle.std.proofs.Common.{inl, inr, ◌∙◌}
+use Rattle.std.proofs.Common.{List, ◌++◌, inl, inr, ◌∙◌, subst}
+use Rattle.op_desk.proofs.Lists.{all-front}
+use Rattle.op_desk.specs.Wallets.{IsSound}
+use Rattle.op_model.proofs.LegalNext.{legal-front}
+use Rattle.op_model.specs.declared.act.Entry.{Entry}
 use Rattle.op_cli.proofs.laws.calls_are_one_history.Goals as goal
 
 pub returns-clause-tried : goal.returns-clause-tried
@@ -6,6 +10,17 @@ returns-clause-tried g c old new next last before after before' after' code code
     elim (first.at_exit told (g.D.Disk.seen next) image) [
       | inl stands ↦ inl (second.continues told first.final.stands stands)
       | inr tried ↦ inr (second.continues told first.final.tried tried)
+    ]
+
+-- what begins a sound history is one
+sound_front : (xs ys : List Entry) → IsSound (xs ++ ys) → IsSound xs
+sound_front xs ys sound = record { legal = legal-front xs ys sound.legal; built = all-front _ xs ys sound.built }
+
+pub returns-clause-legal : goal.returns-clause-legal
+returns-clause-legal g c old new next before after code first told image =
+    elim (first.at_exit told (g.D.Disk.seen next) image) [
+      | inl stands ↦ (first.final.stands, record { spells = stands; sound = sound_front first.final.stands first.tried.0 (subst IsSound first.tried.1 first.sound) })
+      | inr tried ↦ (first.final.tried, record { spells = tried; sound = first.sound })
     ]
 
 pub returns-clause-settled : goal.returns-clause-settled

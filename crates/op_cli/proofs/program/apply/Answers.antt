@@ -31,11 +31,11 @@ returns-in-Ok-clause-replies g c =
       complete = complete _ _ first ran.0 c.session.result ran.1;
       stands = kept.begins;
       tried = kept.tried;
-      legal = kept.sound.legal;
+      sound = kept.sound;
       at_exit = kept.at_exit;
       settled = λ none. kept.settled (λ rose. none (subst (λ (n : ℕ). Rose n (g.D.Disk.faults new)) calm rose));
       unfit = kept.unfit;
       at_every_moment = λ told.
           let later = c.in-Ok.ensures.past_sync told (λ e. cc) in
-          every_moment g.D.Disk.moment g.D.Disk.since first ran.0 (g.D.Disk.seen old) old opened new kept.begins kept.tried (found told) later (c.in-Ok.ensures.synced told later) (kept.stood told);
+          every_moment g.D.Disk.seen g.D.Disk.moment g.D.Disk.since first ran.0 old opened new kept.begins kept.tried (found told) later (c.in-Ok.ensures.synced told later) (c.in-Ok.ensures.calls told) (kept.stood told);
     })

@@ -1,4 +1,4 @@
-use Rattle.std.proofs.Common.{◌≡◌, ◌⊎◌, ◌∙◌, ◌+◌, ◌++◌, ◌∷◌, [], ⊎_elim, ℕ, List, map, refl, sym, ap, subst, arith}
+use Rattle.std.proofs.Common.{◌≡◌, ◌⊎◌, ◌∙◌, ◌+◌, ◌++◌, ◌∷◌, [], ⊎_elim, ℕ, List, length, length-append, map, refl, sym, ap, subst, arith}
 use Rattle.std.specs.Prelude.{Ok, Err, Some}
 use Rattle.op_disk.proofs.Moments.{then}
 use Rattle.op_journal.specs.Frames.{Holds, SpellsUpTo, IsFrameAt, IsBadFrame}
@@ -83,6 +83,15 @@ returns-then-not-more-clause-alone g c told history spelled =
       ap (λ (h : List Entry). let w : WalletValue = record { history = h; spare = c.loop-frame.wallet.spare } in Some w) (one_history (g.D.Disk.seen c.args.disk.now) whole.0 history (whole.3 told) spelled),
     )
 
+pub returns-then-not-more-clause-calls : goal.returns-then-not-more-clause-calls
+unfolding returns-then-not-more-clause-whole spells_all
+returns-then-not-more-clause-calls g c told =
+    let inv = c.loop-frame.invariant in
+    let no = ap Ok c.if-not-more.true in
+    let spelled = (returns-then-not-more-clause-whole g c).3 told in
+    let frames : length spelled.0 ≡ c.loop-frame._frame = inv.frames told in
+    (spelled.0, spelled.1, omega (arith, inv.calls told, frames, c.in-Ok-next_frame.ensures.last_call no))
+
 pub returns-then-not-more-clause-refused_where : goal.returns-then-not-more-clause-refused_where
 returns-then-not-more-clause-refused_where g c fault told fails =
     let whole = returns-then-not-more-clause-whole g c in
@@ -143,6 +152,7 @@ returns-in-Err-load_payload-clause-any_moment g c told =
 -- ---- one frame more
 
 pub loop-frame-preserved : goal.loop-frame-preserved
+unfolding read_more
 loop-frame-preserved g c =
     let inv = c.loop-frame.invariant in
     let first = c.args.disk.now in
@@ -163,6 +173,8 @@ loop-frame-preserved g c =
           c.loop-frame.wallet.history c.load_payload.new.wallet.history payload (inv.read told) e.seen (e.found told)
           (λ payloads holds. subst (λ (k : ℕ). Holds (payloads ++ payload ∷ []) k (g.D.Disk.seen c.next_frame.new.disk)) next (e.holds yes told payloads (subst (λ (k : ℕ). Holds payloads k seen) (sym inv.at) holds)))
           round;
+      frames = λ told. length-append (inv.read told).rounds (round.round ∷ []) ∙ omega (arith, inv.frames told);
+      calls = λ told. omega (arith, inv.calls told, e.calls yes);
       past = λ told. omega (arith, inv.past told, (e.any_moment told).later);
       any_moment = λ told.
           then g.D.Disk.moment g.D.Disk.since first c.loop-frame.disk c.next_frame.new.disk (IsOldOrShort (g.D.Disk.images first) old) (λ x. x ≡ seen) (inv.any_moment told) (e.any_moment told) (λ x is. read_is_old old seen x (g.D.Disk.images first) (inv.read told).opened (g.met.D.Disk.reads_an_image first told) is);
