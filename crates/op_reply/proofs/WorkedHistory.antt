@@ -34,72 +34,55 @@ legal-fold history [] legal follow = legal
 legal-fold history (done ∷ rest) legal follow =
     legal-fold (after history done) rest (legal-with_act history (moment done.turn) (outcome history done).act legal follow.0) follow.1
 
+-- a proof and those behind it, in a row
+infixr 10 ◌and◌
+◌and◌ : {A B : Type 0} → A → B → A × B
+first and rest = (first, rest)
+
 -- ---- the purchase
 
 -- the provider sets up
 legal_until_set_up : IsLegal (history_after 5)
 unfolding url_on_literals utf8_valid_len
 legal_until_set_up = legal-fold [] (take 5 purchase) tt (
-  record { later = lit≤ tt; limit = lit≤ tt; proper = refl; fee = tt; act = refl },
-  (
-    record { later = lit≤ tt; limit = lit≤ tt; proper = refl; fee = tt; act = refl },
-    (
-      record { later = lit≤ tt; limit = lit≤ tt; proper = refl; fee = tt; act = refl },
-      (
-        record { later = lit≤ tt; limit = lit≤ tt; proper = refl; fee = tt; act = refl },
-        (tt, tt),
-      ),
-    ),
-  ),
-)
+    record { later = lit≤ tt; limit = lit≤ tt; proper = refl; fee = tt; act = refl }
+    and record { later = lit≤ tt; limit = lit≤ tt; proper = refl; fee = tt; act = refl }
+    and record { later = lit≤ tt; limit = lit≤ tt; proper = refl; fee = tt; act = refl }
+    and record { later = lit≤ tt; limit = lit≤ tt; proper = refl; fee = tt; act = refl }
+    and tt
+    and tt)
 
 -- the shop asks to be paid, and for a quote
 legal_until_quoted : IsLegal (history_after 9)
 unfolding hex_on_literals digits url_on_literals
 legal_until_quoted = legal-fold (history_after 5) (take 4 (drop 5 purchase)) legal_until_set_up (
-  record { later = lit≤ tt; limit = lit≤ tt; proper = refl; fee = tt; act = refl },
-  (
-    record { later = lit≤ tt; limit = lit≤ tt; proper = refl; fee = tt; act = refl },
-    (
-      record { later = lit≤ tt; limit = lit≤ tt; proper = refl; fee = tt; act = refl },
-      (record { later = lit≤ tt; limit = lit≤ tt; proper = refl; fee = lit≤ tt; act = refl }, tt),
-    ),
-  ),
-)
+    record { later = lit≤ tt; limit = lit≤ tt; proper = refl; fee = tt; act = refl }
+    and record { later = lit≤ tt; limit = lit≤ tt; proper = refl; fee = tt; act = refl }
+    and record { later = lit≤ tt; limit = lit≤ tt; proper = refl; fee = tt; act = refl }
+    and record { later = lit≤ tt; limit = lit≤ tt; proper = refl; fee = lit≤ tt; act = refl }
+    and tt)
 
 -- it asks for the right to spend
 legal_until_granted : IsLegal (history_after 12)
 unfolding hex_on_literals digits url_on_literals
 legal_until_granted = legal-fold (history_after 9) (take 3 (drop 9 purchase)) legal_until_quoted (
-  record { later = lit≤ tt; limit = lit≤ tt; proper = refl; fee = tt; act = refl },
-  (
-    record { later = lit≤ tt; limit = lit≤ tt; proper = refl; fee = tt; act = refl },
-    (record { later = lit≤ tt; limit = lit≤ tt; proper = refl; fee = tt; act = refl }, tt),
-  ),
-)
+    record { later = lit≤ tt; limit = lit≤ tt; proper = refl; fee = tt; act = refl }
+    and record { later = lit≤ tt; limit = lit≤ tt; proper = refl; fee = tt; act = refl }
+    and record { later = lit≤ tt; limit = lit≤ tt; proper = refl; fee = tt; act = refl }
+    and tt)
 
 -- it pays in two pieces
 purchase_is_legal : IsLegal (history_after 19)
 unfolding hex_on_literals digits
 purchase_is_legal = legal-fold (history_after 12) (drop 12 purchase) legal_until_granted (
-  record { later = lit≤ tt; limit = lit≤ tt; proper = refl; fee = tt; act = refl },
-  (
-    record { later = lit≤ tt; limit = lit≤ tt; proper = refl; fee = tt; act = refl },
-    (
-      tt,
-      (
-        record { later = lit≤ tt; limit = lit≤ tt; proper = refl; fee = tt; act = refl },
-        (
-          tt,
-          (
-            record { later = lit≤ tt; limit = lit≤ tt; proper = refl; fee = tt; act = refl },
-            (tt, tt),
-          ),
-        ),
-      ),
-    ),
-  ),
-)
+    record { later = lit≤ tt; limit = lit≤ tt; proper = refl; fee = tt; act = refl }
+    and record { later = lit≤ tt; limit = lit≤ tt; proper = refl; fee = tt; act = refl }
+    and tt
+    and record { later = lit≤ tt; limit = lit≤ tt; proper = refl; fee = tt; act = refl }
+    and tt
+    and record { later = lit≤ tt; limit = lit≤ tt; proper = refl; fee = tt; act = refl }
+    and tt
+    and tt)
 
 -- ---- its audit
 
