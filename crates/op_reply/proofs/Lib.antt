@@ -7,5 +7,6 @@ mod Objects
 mod Redirects
 mod Tables
 mod WorkedForms
+mod WorkedHistory
 mod WorkedPurchase
 mod WorkedReplies

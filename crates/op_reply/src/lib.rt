@@ -1,4 +1,4 @@
-//! JSON both ways: replies as bytes.
+//! Replies as bytes (RFC 9112).
 #![tactic(auto)]
 
 mod admin;
