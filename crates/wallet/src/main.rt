@@ -5,7 +5,9 @@ ghost use Rattle.std.specs.Prelude.{◌≡◌, ◌≢◌, ◌↔◌, ◌⊎◌, 
 ghost use Rattle.std.specs.Vec.Iter.{into_iter_items};
 ghost use Rattle.std.specs.IoError.{error_kind};
 ghost use Rattle.std.specs.declared.io.ErrorKind.TheVariants.{InvalidData};
+ghost use Rattle.op_access.specs.Proof.{master_of};
 ghost use Rattle.op_model.specs.Program.{is_command};
+ghost use Rattle.wallet.specs.Edges.{path_of};
 ghost use Rattle.wallet.specs.Statuses.{line_of};
 ghost use Rattle.wallet.specs.Words.{journal_of};
 
@@ -18,8 +20,9 @@ use op_disk::FileDisk;
 use op_ports::{ReadSource, SystemClock, SystemWords, WriteSink};
 use std::alloc::{AllocError, Global};
 use std::env::Args;
+use std::io::Printer;
 use std::process::ExitCode;
-use std::rt::Env;
+use std::rt::{Env, Stdin};
 use std::{env, io};
 
 /// The status where the words are no command, or the environment holds no master secret.
@@ -27,6 +30,16 @@ const USAGE: u8 = 2;
 
 /// The status where memory was wanting.
 const OUT_OF_MEMORY: u8 = 8;
+
+/// The edges of the program.
+type Edges<'a> = Outside<
+    FileDisk<&'a HostRuntime>,
+    ReadSource<Stdin>,
+    WriteSink<Printer<'a, HostRuntime>>,
+    SystemClock<&'a HostRuntime>,
+    SystemWords<&'a HostRuntime>,
+    HmacVerifier,
+>;
 
 fn main(rt: HostRuntime) -> ExitCode {
     let status = match words_after_name(&rt) {
@@ -81,8 +94,7 @@ fn status_without_master(fault: MasterFault) -> u8
     }
 }
 
-/// The command over the journal's file, standard input, standard output, the system's clock and its random bytes, and
-/// the key proofs of this master secret. The file is opened at the first call on it. No route that is built asks for a key proof, so nothing takes the master secret.
+/// The command over the edges of this runtime.
 fn run(rt: &HostRuntime, words: &[String], master: [u8; 32]) -> u8
     ensures usage { result ≡ 2 → is_command (map string_bytes words.now) ≡ false }
     ensures usage_where { is_command (map string_bytes words.now) ≡ false → (result ≡ 2) ⊎ (result ≡ 8) }
@@ -90,15 +102,23 @@ fn run(rt: &HostRuntime, words: &[String], master: [u8; 32]) -> u8
     let Ok(journal) = journal_name(rt.alloc(), words) else {
         return OUT_OF_MEMORY;
     };
-    let mut outside = Outside {
+    wallet_main(rt.alloc(), words, &mut edges(rt, journal, master))
+}
+
+/// The journal's file, standard input, standard output, the system's clock, its random bytes, and the key proofs under
+/// this master secret. The file is opened at the first call on it. No reply depends on a key proof so far.
+fn edges(rt: &HostRuntime, journal: String, master: [u8; 32]) -> Edges<'_>
+    ensures verifier { master_of result.verifier ≡ master }
+    ensures journal { path_of result.disk ≡ string_bytes journal }
+{
+    Outside {
         disk: FileDisk::new(rt, journal),
         source: ReadSource::new(rt.stdin()),
         sink: WriteSink::new(io::writer(rt)),
         clock: SystemClock::new(rt),
         draws: SystemWords::new(rt),
         verifier: HmacVerifier::new(master),
-    };
-    wallet_main(rt.alloc(), words, &mut outside)
+    }
 }
 
 /// The name of the journal's file: the second word, or nothing.
