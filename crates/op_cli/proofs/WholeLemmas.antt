@@ -7,6 +7,7 @@ use Rattle.op_model.specs.Printed.{printed}
 use Rattle.op_model.specs.Program.{code_of}
 use Rattle.op_model.specs.Requests.{IsEnded}
 use Rattle.op_model.specs.Session.{Final, Session, begun, texts, replies, IsComplete, IsRefusal}
+use Rattle.op_model.specs.Stood.{Stood, now}
 use Rattle.op_model.specs.Turn.{Standing, Turn, Run, refusal_reply}
 use Rattle.op_model.specs.World.{World}
 use Rattle.op_model.specs.declared.act.Entry.{Entry}
@@ -92,15 +93,15 @@ module _ (before after : World) (first : List Entry) (final : Final) where
       let cause = s.ends.cause in
       let refusal : Refusal = cause.0 in
       let at : s.last.at ≡ length (texts s.turns) = omega (arith, r.at) in
-      let same : s.last.history ≡ final.stands = sym (ap (λ (f : Final). f.stands) cause.6) in (
+      let same : s.last.stood ≡ final.stands = sym (ap (λ (f : Final). f.stands) cause.6) in (
         r.rest,
         refusal,
         subst (λ (n : ℕ). IsRefusal refusal n (Some r.rest)) at (subst (λ (left : Option (List ℕ)). IsRefusal refusal s.last.at left) r.left cause.2),
         record {
           read = r.read;
           written = appends_told s.last.world.written after.written _ (old ++ replies s.turns) r.written cause.5
-              ∙ ap Some (append_assoc old (replies s.turns) (printed (refusal_reply s.last.history refusal))
-              ∙ ap (λ (h : List Entry). old ++ (replies s.turns ++ printed (refusal_reply h refusal))) same);
+              ∙ ap Some (append_assoc old (replies s.turns) (printed (refusal_reply (now s.last.stood) refusal))
+              ∙ ap (λ (h : Stood). old ++ (replies s.turns ++ printed (refusal_reply (now h) refusal))) same);
         },
       )
   complete ends.TurnLimit s bytes old l w =

@@ -1,5 +1,5 @@
 -- A turn: one request, from its bytes to its reply.
-use Rattle.std.specs.Prelude.{◌≡◌, ◌+◌, ◌<◌, ℕ, Bool, if◌then◌else◌, List, [], ◌∷◌, length, Ok, Err}
+use Rattle.std.specs.Prelude.{◌≡◌, ◌+◌, ◌<◌, ℕ, Bool, if◌then◌else◌, List, [], ◌∷◌, ◌++◌, length, Ok, Err}
 use Rattle.std.specs.Io.KnownBytes.{Consumes, Appends}
 use Rattle.std.specs.declared.result.Result.{Result}
 use Rattle.op_ports.specs.Clock.{AsksKnown}
@@ -9,6 +9,7 @@ use Rattle.op_model.specs.Meant.{meant}
 use Rattle.op_model.specs.Printed.{printed}
 use Rattle.op_model.specs.Round.{Terms, Handled, IsPlainRound}
 use Rattle.op_model.specs.Requests.{Raw, IsWholeRequest}
+use Rattle.op_model.specs.Stood.{Stood, now, with_entries}
 use Rattle.op_model.specs.Verdicts.{verdict_of}
 use Rattle.op_model.specs.World.{World}
 use Rattle.op_model.specs.declared.act.Entry.{Entry}
@@ -68,7 +69,7 @@ IsReplied old turn (Err refusal) new =
 -- ---- where a session stands between two turns
 
 pub record Standing : Type 0 where
-  pub history : List Entry
+  pub stood : Stood
   -- how many requests were answered
   pub answered : ℕ
   -- where the next one begins in the stream
@@ -86,7 +87,10 @@ pub record Begins (old : Standing) (turn : Turn) (new : Standing) : Type 0 where
   pub asked : AsksKnown old.world.answers new.world.answers (turn.answer ∷ [])
   pub drawn : DrawsKnown old.world.words new.world.words (turn.word ∷ [])
   pub whole : length turn.word ≡ 16
-  pub replied : IsReplied old.history turn (meant turn.raw) new.history
+  -- its round: what it adds to the history, all of it or none
+  pub entries : List Entry
+  pub replied : IsReplied (now old.stood) turn (meant turn.raw) (now old.stood ++ entries)
+  pub stands : new.stood ≡ with_entries old.stood entries
   pub counted : new.answered ≡ old.answered + 1
   pub moved : new.at ≡ old.at + length turn.text
   pub verifier : new.world.accepts ≡ old.world.accepts
