@@ -11,8 +11,8 @@ use Rattle.op_desk.specs.Batches.{DeskValue, IsWhole}
 use Rattle.op_desk.specs.Spelling.{Spells, SpellsRounds, SpellsEither, Stands, LacksRoom, history_of, with_round}
 use Rattle.op_desk.specs.Wallets.{WalletValue, IsSound}
 use Rattle.op_disk.specs.Calls.{LeavesOnly}
-use Rattle.op_model.specs.Session.{Final, settled, tried_after, unfit_after}
-use Rattle.op_model.specs.Stood.{Stood, opened_with, entries_of, now, with_rounds, round_of, with_entries}
+use Rattle.op_session.specs.Session.{Final, settled, tried_after, unfit_after}
+use Rattle.op_session.specs.Stood.{Stood, opened_with, entries_of, now, with_rounds, round_of, with_entries}
 use Rattle.op_model.specs.declared.act.Entry.{Entry}
 use Rattle.op_cli.specs.Kept.{FromEach, SpellsAtLeast, GoesOn, Lasts, IsUnfit, Leaves, Endures, Kept, IsReady, history_at}
 

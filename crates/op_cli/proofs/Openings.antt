@@ -3,8 +3,8 @@ use Rattle.std.proofs.Common.{◌≡◌, ◌≤◌, ◌<◌, ◌+◌, ℕ, List,
 use Rattle.op_desk.specs.Spelling.{Spells, SpellsRounds, history_of, records, opening_calls}
 use Rattle.op_journal.specs.Frames as frames
 use Rattle.op_journal.specs.Recovered.{IsOldOrShort}
-use Rattle.op_model.specs.Session.{Final}
-use Rattle.op_model.specs.Stood.{Stood, opened_with, with_rounds}
+use Rattle.op_session.specs.Session.{Final}
+use Rattle.op_session.specs.Stood.{Stood, opened_with, with_rounds}
 use Rattle.op_model.specs.declared.act.Entry.{Entry}
 use Rattle.op_cli.specs.Applies.{EveryMoment}
 use Rattle.op_cli.specs.Kept.{SpellsAtLeast, Endures}

@@ -8,12 +8,12 @@ use Rattle.op_desk.specs.Wallets.{Handles}
 use Rattle.op_ports.specs.Sink.{AppendsFront}
 use Rattle.op_model.specs.History.{moment_of_turn}
 use Rattle.op_model.specs.Printed.{printed}
-use Rattle.op_model.specs.Session.{Final, settled, tried_after, unfit_after}
-use Rattle.op_model.specs.Stood.{Stood, now, with_entries}
-use Rattle.op_model.specs.Turn.{refusal_reply}
+use Rattle.op_session.specs.Session.{Final, settled, tried_after, unfit_after}
+use Rattle.op_session.specs.Stood.{Stood, now, with_entries}
+use Rattle.op_model.specs.Round.{refusal_reply}
 use Rattle.op_model.specs.declared.act.Entry.{Entry}
-use Rattle.op_model.specs.declared.end.End.{End}
-use Rattle.op_model.specs.declared.end.End.TheVariants as ends
+use Rattle.op_session.specs.declared.end.End.{End}
+use Rattle.op_session.specs.declared.end.End.TheVariants as ends
 use Rattle.op_model.specs.declared.reply.Reply.{Reply}
 use Rattle.op_model.specs.declared.reply.Refusal.{Refusal}
 use Rattle.op_model.specs.declared.reply.Refusal.TheVariants.{Memory, DiskFault, JournalFull}

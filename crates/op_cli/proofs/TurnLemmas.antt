@@ -12,14 +12,15 @@ use Rattle.op_ports.specs.Words.{DrawsKnown}
 use Rattle.op_model.specs.Meant.{meant}
 use Rattle.op_model.specs.Printed.{printed}
 use Rattle.op_model.specs.Requests.{Raw, BeginsWithNoRequest}
-use Rattle.op_model.specs.Session.{Final, Ends, Cause, AnswersOne, LosesRound, IsRefusal, settled}
-use Rattle.op_model.specs.Stood.{Stood, now, with_entries}
-use Rattle.op_model.specs.Turn.{Turn, Begins, IsTurn, turn_limit, refusal_reply}
+use Rattle.op_model.specs.Round.{refusal_reply}
+use Rattle.op_session.specs.Session.{Final, Ends, Cause, AnswersOne, LosesRound, IsRefusal, settled}
+use Rattle.op_session.specs.Stood.{Stood, now, with_entries}
+use Rattle.op_session.specs.Turn.{Turn, Begins, IsTurn, turn_limit}
 use Rattle.op_model.specs.Verdicts.{verdict_of}
-use Rattle.op_model.specs.World.{World}
+use Rattle.op_session.specs.World.{World}
 use Rattle.op_model.specs.declared.act.Entry.{Entry}
-use Rattle.op_model.specs.declared.end.End.{End}
-use Rattle.op_model.specs.declared.end.End.TheVariants as ends
+use Rattle.op_session.specs.declared.end.End.{End}
+use Rattle.op_session.specs.declared.end.End.TheVariants as ends
 use Rattle.op_model.specs.declared.reply.Reply.{Reply}
 use Rattle.op_model.specs.declared.reply.Refusal.{Refusal}
 use Rattle.op_model.specs.declared.reply.Refusal.TheVariants as refusals

@@ -6,8 +6,8 @@ use Rattle.op_desk.specs.Batches.{DeskValue}
 use Rattle.op_desk.specs.Spelling.{Spells, Stands, LacksRoom, history_of}
 use Rattle.op_desk.specs.Wallets.{IsSound}
 use Rattle.op_disk.specs.Calls.{LeavesOnly}
-use Rattle.op_model.specs.Session.{Final}
-use Rattle.op_model.specs.Stood.{Stood, entries_of, now, with_rounds}
+use Rattle.op_session.specs.Session.{Final}
+use Rattle.op_session.specs.Stood.{Stood, entries_of, now, with_rounds}
 use Rattle.op_model.specs.declared.act.Entry.{Entry}
 
 -- the history of a whole desk

@@ -3,8 +3,8 @@ use Rattle.std.specs.Prelude.{◌≡◌, ◌⊎◌, ℕ, Bool, List, IsTrue}
 use Rattle.op_causes.specs.Causes.{Rose}
 use Rattle.op_desk.specs.Spelling.{SpellsSound}
 use Rattle.op_model.specs.declared.act.Entry.{Entry}
-use Rattle.op_model.specs.Stood.{now}
-use Rattle.op_model.specs.World.{World}
+use Rattle.op_session.specs.Stood.{now}
+use Rattle.op_session.specs.World.{World}
 use Rattle.op_cli.specs.Applies.{RunsOn}
 
 module _ {D : Type 0} (tells : Bool) (seen : D → List ℕ) (moment : D → ℕ) (since : D → ℕ → List ℕ → Type 0) (images : D → List ℕ → Type 0) (faults : D → ℕ) where

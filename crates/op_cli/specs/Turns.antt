@@ -17,14 +17,15 @@ use Rattle.op_model.specs.Legal.{keeps_forms}
 use Rattle.op_model.specs.Meant.{meant}
 use Rattle.op_model.specs.Printed.{printed}
 use Rattle.op_model.specs.Requests.{Raw}
-use Rattle.op_model.specs.Session.{Final, Ends, Writing, settled, tried_after, unfit_after}
-use Rattle.op_model.specs.Stood.{Stood, now, with_entries}
-use Rattle.op_model.specs.Turn.{Standing, Turn, IsTurn, IsReplied, turn_limit, refusal_reply}
+use Rattle.op_model.specs.Round.{refusal_reply}
+use Rattle.op_session.specs.Session.{Final, Ends, Writing, settled, tried_after, unfit_after}
+use Rattle.op_session.specs.Stood.{Stood, now, with_entries}
+use Rattle.op_session.specs.Turn.{Standing, Turn, IsTurn, IsReplied, turn_limit}
 use Rattle.op_model.specs.Verdicts.{verdict_of}
-use Rattle.op_model.specs.World.{World}
+use Rattle.op_session.specs.World.{World}
 use Rattle.op_model.specs.declared.act.Entry.{Entry}
-use Rattle.op_model.specs.declared.end.End.{End}
-use Rattle.op_model.specs.declared.end.End.TheVariants as ends
+use Rattle.op_session.specs.declared.end.End.{End}
+use Rattle.op_session.specs.declared.end.End.TheVariants as ends
 use Rattle.op_model.specs.declared.reply.Reply.{Reply}
 use Rattle.op_model.specs.declared.reply.Refusal.{Refusal}
 use Rattle.op_model.specs.declared.reply.Refusal.TheVariants.{BadHttp, LengthRequired, RequestTooLarge, DiskFault, JournalFull}

@@ -6,9 +6,9 @@ use Rattle.op_desk.specs.Wallets.{Handles}
 use Rattle.op_model.specs.History.{moment_of_turn}
 use Rattle.op_model.specs.Meant.{meant}
 use Rattle.op_model.specs.Printed.{printed}
-use Rattle.op_model.specs.Session.{settled}
-use Rattle.op_model.specs.Stood.{Stood, now}
-use Rattle.op_model.specs.Turn.{refusal_reply}
+use Rattle.op_session.specs.Session.{settled}
+use Rattle.op_session.specs.Stood.{Stood, now}
+use Rattle.op_model.specs.Round.{refusal_reply}
 use Rattle.op_model.specs.Verdicts.{verdict_of}
 use Rattle.op_model.specs.declared.act.Entry.{Entry}
 use Rattle.op_model.specs.declared.reply.Refusal.{Refusal}

@@ -2,8 +2,8 @@ use Rattle.std.proofs.Common.{◌≢◌, List, [], ℕ, Err, sym, subst, ap}
 use Rattle.op_desk.specs.Batches.{history_in}
 use Rattle.op_desk.specs.Spelling.{LacksRoom}
 use Rattle.op_model.specs.History.{origin_of}
-use Rattle.op_model.specs.Session.{settled, tried_after, unfit_after}
-use Rattle.op_model.specs.Stood.{now, with_entries}
+use Rattle.op_session.specs.Session.{settled, tried_after, unfit_after}
+use Rattle.op_session.specs.Stood.{now, with_entries}
 use Rattle.op_ports.specs.Sink.{AppendsFront}
 use Rattle.op_cli.specs.Kept.{Leaves}
 use Rattle.op_cli.proofs.Journals.{leaves_round, leaves_failed, leaves_unfit, lacks_room, ready_behind}

@@ -1,7 +1,7 @@
 use Rattle.std.proofs.Common.{refl}
-use Rattle.op_model.specs.Session.{settled}
-use Rattle.op_model.specs.Stood.{opened_with}
-use Rattle.op_model.specs.declared.end.End.TheVariants.{ReadFault, WordsFault}
+use Rattle.op_session.specs.Session.{settled}
+use Rattle.op_session.specs.Stood.{opened_with}
+use Rattle.op_session.specs.declared.end.End.TheVariants.{ReadFault, WordsFault}
 use Rattle.op_cli.specs.Kept.{history_at}
 use Rattle.op_cli.proofs.Journals.{leaves_same, now_opened}
 use Rattle.op_cli.proofs.Results.{on_ok_map, never}

@@ -1,9 +1,9 @@
 use Rattle.std.proofs.Common.{◌≡◌, arith, sym, ap, subst, ◌∙◌, refl}
 use Rattle.op_desk.specs.Wallets.{IsSound}
 use Rattle.op_http.specs.Held.{Held}
-use Rattle.op_model.specs.Session.{Session, settled}
-use Rattle.op_model.specs.Stood.{opened_with, with_entries}
-use Rattle.op_model.specs.Turn.{Standing, turn_limit}
+use Rattle.op_session.specs.Session.{Session, settled}
+use Rattle.op_session.specs.Stood.{opened_with, with_entries}
+use Rattle.op_session.specs.Turn.{Standing, turn_limit}
 use Rattle.op_cli.specs.Kept.{history_at}
 use Rattle.op_cli.specs.Told.{world_of}
 use Rattle.op_cli.specs.Turns.{here}

@@ -1,8 +1,8 @@
 use Rattle.std.proofs.Common.{◌≡◌, ◌≤◌, ◌*◌}
-use Rattle.op_model.specs.Session.{Final, Session, begun, settled}
-use Rattle.op_model.specs.Stood.{Stood, now}
-use Rattle.op_model.specs.World.{World}
-use Rattle.op_model.specs.declared.end.End.{End}
+use Rattle.op_session.specs.Session.{Final, Session, begun, settled}
+use Rattle.op_session.specs.Stood.{Stood, now}
+use Rattle.op_session.specs.World.{World}
+use Rattle.op_session.specs.declared.end.End.{End}
 use Rattle.op_cli.specs.Kept.{history_at, IsReady, Kept}
 use Rattle.op_cli.specs.Told.{world_of}
 use Rattle.op_cli.specs.Turns.{here}

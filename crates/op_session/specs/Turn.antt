@@ -4,17 +4,16 @@ use Rattle.std.specs.Io.KnownBytes.{Consumes, Appends}
 use Rattle.std.specs.declared.result.Result.{Result}
 use Rattle.op_ports.specs.Clock.{AsksKnown}
 use Rattle.op_ports.specs.Words.{DrawsKnown}
-use Rattle.op_model.specs.History.{moment_of_turn, origin_of}
+use Rattle.op_model.specs.History.{moment_of_turn}
 use Rattle.op_model.specs.Meant.{meant}
 use Rattle.op_model.specs.Printed.{printed}
-use Rattle.op_model.specs.Round.{Terms, Handled, IsPlainRound}
+use Rattle.op_model.specs.Round.{Terms, Handled, IsPlainRound, refusal_reply}
 use Rattle.op_model.specs.Requests.{Raw, IsWholeRequest}
-use Rattle.op_model.specs.Stood.{Stood, now, with_entries}
+use Rattle.op_session.specs.Stood.{Stood, now, with_entries}
 use Rattle.op_model.specs.Verdicts.{verdict_of}
-use Rattle.op_model.specs.World.{World}
+use Rattle.op_session.specs.World.{World}
 use Rattle.op_model.specs.declared.act.Entry.{Entry}
 use Rattle.op_model.specs.declared.reply.Reply.{Reply}
-use Rattle.op_model.specs.declared.reply.ReplyBody.TheVariants.{Refused}
 use Rattle.op_model.specs.declared.reply.Refusal.{Refusal}
 use Rattle.op_model.specs.declared.reply.Refusal.TheVariants.{Memory}
 use Rattle.op_model.specs.declared.request.Request.{Request}
@@ -54,9 +53,6 @@ handled request turn = record {
   wanted_memory = turn.wanted_memory;
   reply = turn.reply;
 }
-
-abbrev pub refusal_reply : List Entry → Refusal → Reply
-refusal_reply history refusal = record { origin = origin_of history; body = Refused refusal }
 
 -- A request that is understood is a round of one task. Any other has its refusal, and adds nothing.
 -- Want of memory may stand in place of either reply.
