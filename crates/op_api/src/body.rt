@@ -2,7 +2,7 @@
 ghost use Rattle.std.specs.Prelude.{◌≡◌, ◌⊎◌, IfErr, option_map};
 ghost use Rattle.serde_json.specs.View.{view};
 ghost use Rattle.op_model.specs.Json.{number_of, optional_in, with_members};
-ghost use Rattle.op_model.specs.Members.{code_in, scale_in, pieces_in, asset_asked};
+ghost use Rattle.op_model.specs.Members.{code_in, scale_in, pieces_in, add_asset_members};
 ghost use Rattle.op_api.specs.Body.{IsMeant, IsObject, IsPrintable, IsReadingFault, bad_member};
 
 use crate::request::ApiFault;
@@ -102,8 +102,8 @@ fn bad_member(alloc: Global, name: &str) -> ApiFault
 }
 
 /// The request to add an asset that a body means.
-pub fn read_asset(alloc: Global, body: &[u8]) -> Result<Request, ApiFault>
-    ensures meant { IsMeant (with_members asset_asked body.now) result }
+pub fn read_add_asset(alloc: Global, body: &[u8]) -> Result<Request, ApiFault>
+    ensures meant { IsMeant (with_members add_asset_members body.now) result }
     ensures built { IfErr result IsPrintable }
     ensures forms { IfErr result IsReadingFault }
 {

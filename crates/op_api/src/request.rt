@@ -6,7 +6,7 @@ ghost use Rattle.op_api.specs.Body.{IsMeant, IsPrintable, IsReadingFault, refusa
 ghost use Rattle.op_api.specs.Routes.{asked_on};
 ghost use Rattle.op_api.specs.declared.request.ApiFault.TheVariants.{Memory};
 
-use crate::body::read_asset;
+use crate::body::read_add_asset;
 use crate::verdict::verdict_of;
 use op_http::{RawRequest, Route, RouteFault, find_route};
 use op_model::{Refusal, Request, Verdict};
@@ -50,7 +50,7 @@ fn on_route(alloc: Global, route: &Route, raw: &RawRequest) -> Result<Request, A
     ensures forms { IfErr result IsReadingFault }
 {
     match route {
-        Route::AddAsset => read_asset(alloc, raw.body()),
+        Route::AddAsset => read_add_asset(alloc, raw.body()),
         _ => Err(ApiFault::Refused(Refusal::NotFound)),
     }
 }

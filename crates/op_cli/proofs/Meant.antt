@@ -12,7 +12,7 @@ use Rattle.op_amount.specs.Code.{is_asset_code}
 use Rattle.op_model.specs.Asking.{◌>>=◌}
 use Rattle.op_model.specs.Json.{object_in, text_in, number_of, optional_in, if_within, or_bad}
 use Rattle.op_model.specs.Meant.{meant, asked_if_built}
-use Rattle.op_model.specs.Members.{code_in, if_code, scale_in, pieces_in, asset_asked}
+use Rattle.op_model.specs.Members.{code_in, if_code, scale_in, pieces_in, add_asset_members}
 use Rattle.op_model.specs.Requests.{Raw}
 use Rattle.op_model.specs.RouteTable.{operation_of}
 use Rattle.op_model.specs.declared.operation.Operation.{Operation}
@@ -62,7 +62,7 @@ pieces_of (Some d) pieces e = number_within 1 64 d pieces e
 fit : (code : List ℕ) (scale pieces : ℕ) → is_asset_code code ≡ true → nat_le scale 18 ≡ true → (nat_le 1 pieces && nat_le pieces 64) ≡ true → IsFit (AddAsset (record { code = code; scale = scale }) pieces)
 fit code scale pieces c s p = record { built = refl; forms = rw (c, s, p) refl }
 
-asset_fit : (d : Data) (request : Request) → asset_asked d ≡ Ok request → IsFit request
+asset_fit : (d : Data) (request : Request) → add_asset_members d ≡ Ok request → IsFit request
 asset_fit d request e =
     let code = bound (or_bad (codes "assetCode") (code_in d)) _ request e in
     let scale = bound (or_bad (codes "assetScale") (scale_in d)) _ request code.2 in
@@ -75,7 +75,7 @@ asset_fit d request e =
 
 asked_fit : (raw : Raw) (operation : Operation) (request : Request) → asked_if_built raw operation ≡ Ok request → IsFit request
 asked_fit raw operations.AddAsset request e =
-    let object = bound (ok_or (object_in raw.body) _) asset_asked request e in
+    let object = bound (ok_or (object_in raw.body) _) add_asset_members request e in
     asset_fit object.0 request object.2
 asked_fit raw _ request e = absurd cc
 

@@ -15,32 +15,32 @@ use Rattle.op_http.specs.declared.route.RouteFault.TheVariants.{NoRoute, BadMeth
 abbrev pub route_with : Operation → List ℕ → Route
 route_with operations.SetOrigin path = routes.SetOrigin
 route_with operations.AddAsset path = routes.AddAsset
-route_with operations.ShowAsset path = routes.ShowAsset (segment 2 path) (segment 3 path)
+route_with operations.InspectAsset path = routes.InspectAsset (segment 2 path) (segment 3 path)
 route_with operations.AddAddress path = routes.AddAddress
-route_with operations.ShowAddress path = routes.ShowAddress (segment 2 path)
+route_with operations.InspectAddress path = routes.InspectAddress (segment 2 path)
 route_with operations.Deposit path = routes.Deposit
 route_with operations.Withdraw path = routes.Withdraw
 route_with operations.SetRate path = routes.SetRate
-route_with operations.AcceptInteraction path = routes.AcceptInteraction (segment 2 path)
-route_with operations.RejectInteraction path = routes.RejectInteraction (segment 2 path)
-route_with operations.ShowPayment path = routes.ShowPayment (segment 2 path)
-route_with operations.CancelPayment path = routes.CancelPayment (segment 2 path)
+route_with operations.AcceptGrant path = routes.AcceptGrant (segment 2 path)
+route_with operations.RejectGrant path = routes.RejectGrant (segment 2 path)
+route_with operations.InspectOutgoing path = routes.InspectOutgoing (segment 2 path)
+route_with operations.CancelOutgoing path = routes.CancelOutgoing (segment 2 path)
 route_with operations.ReadAddress path = routes.ReadAddress path
 route_with operations.AskGrant path = routes.AskGrant
 route_with operations.ContinueGrant path = routes.ContinueGrant (segment 1 path)
 route_with operations.CancelGrant path = routes.CancelGrant (segment 1 path)
 route_with operations.RotateToken path = routes.RotateToken (segment 1 path)
 route_with operations.RevokeToken path = routes.RevokeToken (segment 1 path)
-route_with operations.CreateIncoming path = routes.CreateIncoming
-route_with operations.ListIncoming path = routes.ListIncoming
+route_with operations.MakeIncoming path = routes.MakeIncoming
+route_with operations.ListIncomings path = routes.ListIncomings
 route_with operations.ReadIncoming path = routes.ReadIncoming (segment 1 path)
 route_with operations.CompleteIncoming path = routes.CompleteIncoming (segment 1 path)
-route_with operations.CreateQuote path = routes.CreateQuote
+route_with operations.MakeQuote path = routes.MakeQuote
 route_with operations.ReadQuote path = routes.ReadQuote (segment 1 path)
-route_with operations.CreateOutgoing path = routes.CreateOutgoing
-route_with operations.ListOutgoing path = routes.ListOutgoing
+route_with operations.MakeOutgoing path = routes.MakeOutgoing
+route_with operations.ListOutgoings path = routes.ListOutgoings
 route_with operations.ReadOutgoing path = routes.ReadOutgoing (segment 1 path)
-route_with operations.ReadMonetization path = routes.ReadMonetization
+route_with operations.ReadFeed path = routes.ReadFeed
 
 -- why there is no operation; want of memory may stand for any answer
 abbrev pub IsMissed : Result Operation Refusal → RouteFault → Type 0

@@ -43,7 +43,7 @@ const PLACES: [Row; 23] = [
         path: "/admin/assets/{code}/{scale}",
         methods: Methods {
             delete: None,
-            get: Some(Operation::ShowAsset),
+            get: Some(Operation::InspectAsset),
             post: None,
         },
     },
@@ -59,7 +59,7 @@ const PLACES: [Row; 23] = [
         path: "/admin/wallet-addresses/{id}",
         methods: Methods {
             delete: None,
-            get: Some(Operation::ShowAddress),
+            get: Some(Operation::InspectAddress),
             post: None,
         },
     },
@@ -92,7 +92,7 @@ const PLACES: [Row; 23] = [
         methods: Methods {
             delete: None,
             get: None,
-            post: Some(Operation::AcceptInteraction),
+            post: Some(Operation::AcceptGrant),
         },
     },
     Row {
@@ -100,14 +100,14 @@ const PLACES: [Row; 23] = [
         methods: Methods {
             delete: None,
             get: None,
-            post: Some(Operation::RejectInteraction),
+            post: Some(Operation::RejectGrant),
         },
     },
     Row {
         path: "/admin/outgoing-payments/{id}",
         methods: Methods {
             delete: None,
-            get: Some(Operation::ShowPayment),
+            get: Some(Operation::InspectOutgoing),
             post: None,
         },
     },
@@ -116,7 +116,7 @@ const PLACES: [Row; 23] = [
         methods: Methods {
             delete: None,
             get: None,
-            post: Some(Operation::CancelPayment),
+            post: Some(Operation::CancelOutgoing),
         },
     },
     Row {
@@ -147,8 +147,8 @@ const PLACES: [Row; 23] = [
         path: "/incoming-payments",
         methods: Methods {
             delete: None,
-            get: Some(Operation::ListIncoming),
-            post: Some(Operation::CreateIncoming),
+            get: Some(Operation::ListIncomings),
+            post: Some(Operation::MakeIncoming),
         },
     },
     Row {
@@ -172,7 +172,7 @@ const PLACES: [Row; 23] = [
         methods: Methods {
             delete: None,
             get: None,
-            post: Some(Operation::CreateQuote),
+            post: Some(Operation::MakeQuote),
         },
     },
     Row {
@@ -187,8 +187,8 @@ const PLACES: [Row; 23] = [
         path: "/outgoing-payments",
         methods: Methods {
             delete: None,
-            get: Some(Operation::ListOutgoing),
-            post: Some(Operation::CreateOutgoing),
+            get: Some(Operation::ListOutgoings),
+            post: Some(Operation::MakeOutgoing),
         },
     },
     Row {
@@ -203,7 +203,7 @@ const PLACES: [Row; 23] = [
         path: "/monetization",
         methods: Methods {
             delete: None,
-            get: Some(Operation::ReadMonetization),
+            get: Some(Operation::ReadFeed),
             post: None,
         },
     },

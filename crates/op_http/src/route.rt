@@ -18,11 +18,11 @@ pub enum Route {
     /// `POST /admin/assets`
     AddAsset,
     /// `GET /admin/assets/{code}/{scale}`
-    ShowAsset { code: Text, scale: Text },
+    InspectAsset { code: Text, scale: Text },
     /// `POST /admin/wallet-addresses`
     AddAddress,
     /// `GET /admin/wallet-addresses/{id}`
-    ShowAddress { id: Text },
+    InspectAddress { id: Text },
     /// `POST /admin/deposits`
     Deposit,
     /// `POST /admin/withdrawals`
@@ -30,13 +30,13 @@ pub enum Route {
     /// `POST /admin/rates`
     SetRate,
     /// `POST /admin/interactions/{id}/accept`
-    AcceptInteraction { id: Text },
+    AcceptGrant { id: Text },
     /// `POST /admin/interactions/{id}/reject`
-    RejectInteraction { id: Text },
+    RejectGrant { id: Text },
     /// `GET /admin/outgoing-payments/{id}`
-    ShowPayment { id: Text },
+    InspectOutgoing { id: Text },
     /// `POST /admin/outgoing-payments/{id}/cancel`
-    CancelPayment { id: Text },
+    CancelOutgoing { id: Text },
     /// `GET` an address path
     ReadAddress { path: Text },
     /// `POST /grant`
@@ -50,25 +50,25 @@ pub enum Route {
     /// `DELETE /token/{id}`
     RevokeToken { id: Text },
     /// `POST /incoming-payments`
-    CreateIncoming,
+    MakeIncoming,
     /// `GET /incoming-payments`
-    ListIncoming,
+    ListIncomings,
     /// `GET /incoming-payments/{id}`
     ReadIncoming { id: Text },
     /// `POST /incoming-payments/{id}/complete`
     CompleteIncoming { id: Text },
     /// `POST /quotes`
-    CreateQuote,
+    MakeQuote,
     /// `GET /quotes/{id}`
     ReadQuote { id: Text },
     /// `POST /outgoing-payments`
-    CreateOutgoing,
+    MakeOutgoing,
     /// `GET /outgoing-payments`
-    ListOutgoing,
+    ListOutgoings,
     /// `GET /outgoing-payments/{id}`
     ReadOutgoing { id: Text },
     /// `GET /monetization`
-    ReadMonetization,
+    ReadFeed,
 }
 
 /// Why there is no route.
@@ -135,27 +135,27 @@ fn route_with(alloc: Global, operation: Operation, path: &[u8]) -> Result<Route,
     let route = match operation {
         Operation::SetOrigin => Route::SetOrigin,
         Operation::AddAsset => Route::AddAsset,
-        Operation::ShowAsset => Route::ShowAsset {
+        Operation::InspectAsset => Route::InspectAsset {
             code: segment(alloc, path, 2)?,
             scale: segment(alloc, path, 3)?,
         },
         Operation::AddAddress => Route::AddAddress,
-        Operation::ShowAddress => Route::ShowAddress {
+        Operation::InspectAddress => Route::InspectAddress {
             id: segment(alloc, path, 2)?,
         },
         Operation::Deposit => Route::Deposit,
         Operation::Withdraw => Route::Withdraw,
         Operation::SetRate => Route::SetRate,
-        Operation::AcceptInteraction => Route::AcceptInteraction {
+        Operation::AcceptGrant => Route::AcceptGrant {
             id: segment(alloc, path, 2)?,
         },
-        Operation::RejectInteraction => Route::RejectInteraction {
+        Operation::RejectGrant => Route::RejectGrant {
             id: segment(alloc, path, 2)?,
         },
-        Operation::ShowPayment => Route::ShowPayment {
+        Operation::InspectOutgoing => Route::InspectOutgoing {
             id: segment(alloc, path, 2)?,
         },
-        Operation::CancelPayment => Route::CancelPayment {
+        Operation::CancelOutgoing => Route::CancelOutgoing {
             id: segment(alloc, path, 2)?,
         },
         Operation::ReadAddress => Route::ReadAddress {
@@ -174,24 +174,24 @@ fn route_with(alloc: Global, operation: Operation, path: &[u8]) -> Result<Route,
         Operation::RevokeToken => Route::RevokeToken {
             id: segment(alloc, path, 1)?,
         },
-        Operation::CreateIncoming => Route::CreateIncoming,
-        Operation::ListIncoming => Route::ListIncoming,
+        Operation::MakeIncoming => Route::MakeIncoming,
+        Operation::ListIncomings => Route::ListIncomings,
         Operation::ReadIncoming => Route::ReadIncoming {
             id: segment(alloc, path, 1)?,
         },
         Operation::CompleteIncoming => Route::CompleteIncoming {
             id: segment(alloc, path, 1)?,
         },
-        Operation::CreateQuote => Route::CreateQuote,
+        Operation::MakeQuote => Route::MakeQuote,
         Operation::ReadQuote => Route::ReadQuote {
             id: segment(alloc, path, 1)?,
         },
-        Operation::CreateOutgoing => Route::CreateOutgoing,
-        Operation::ListOutgoing => Route::ListOutgoing,
+        Operation::MakeOutgoing => Route::MakeOutgoing,
+        Operation::ListOutgoings => Route::ListOutgoings,
         Operation::ReadOutgoing => Route::ReadOutgoing {
             id: segment(alloc, path, 1)?,
         },
-        Operation::ReadMonetization => Route::ReadMonetization,
+        Operation::ReadFeed => Route::ReadFeed,
     };
     Ok(route)
 }

@@ -1,7 +1,7 @@
 -- Worked requests: what parameters and members mean.
 use Rattle.std.proofs.Common.{◌≡◌, ℕ, List, [], ◌∷◌, codes, Some, None, Err, false, refl}
 use Rattle.op_names.specs.declared.Kind.TheVariants.{Grant}
-use Rattle.op_model.specs.GrantMembers.{grant_asked, grant_refused, actions_in, access_in, interact_in, is_reference}
+use Rattle.op_model.specs.GrantMembers.{ask_grant_members, grant_refused, actions_in, access_in, interact_in, is_reference}
 use Rattle.op_model.specs.Parameters.{row_at, asset_at, parameter, digits_within}
 use Rattle.op_model.specs.declared.grant.Interact.TheVariants.{Missing, NoRedirect, Redirect}
 use Rattle.op_model.specs.declared.reply.Refusal.TheVariants.{InvalidRequest}
@@ -81,7 +81,7 @@ other_start = refl
 start_with_redirect : interact_in (object (member (codes "interact") (object (member (codes "start") (array (item (string (codes "redirect")) no_items)) no_members)) no_members)) ≡ Some (Redirect None)
 start_with_redirect = refl
 
-no_access : grant_refused (grant_asked (object no_members)) ≡ Err (InvalidRequest (Some (codes "access_token")))
+no_access : grant_refused (ask_grant_members (object no_members)) ≡ Err (InvalidRequest (Some (codes "access_token")))
 no_access = refl
 
 -- a token is no reference

@@ -24,7 +24,7 @@ use Rattle.op_model.specs.declared.reply.AddressShown.{AddressShown}
 use Rattle.op_model.specs.declared.reply.IncomingShown.{IncomingShown}
 use Rattle.op_model.specs.declared.reply.QuoteShown.{QuoteShown}
 use Rattle.op_model.specs.declared.reply.OutgoingShown.{OutgoingShown}
-use Rattle.op_model.specs.declared.reply.PaymentShown.{PaymentShown}
+use Rattle.op_model.specs.declared.reply.ProgressShown.{ProgressShown}
 use Rattle.op_model.specs.declared.reply.ItemShown.{ItemShown}
 use Rattle.op_model.specs.declared.reply.LimitsShown.{LimitsShown}
 use Rattle.op_model.specs.declared.reply.FeedEvent.{FeedEvent}
@@ -94,8 +94,8 @@ asset_added_data asset pieces = object (
     member (codes "assetScale") (whole asset.scale) (
     member (codes "pieces") (whole pieces) no_members)))
 
-abbrev pub asset_read_data : Asset → (pieces pool fees total : ℕ) → Data
-asset_read_data asset pieces pool fees total = object (
+abbrev pub asset_inspected_data : Asset → (pieces pool fees total : ℕ) → Data
+asset_inspected_data asset pieces pool fees total = object (
     member (codes "assetCode") (string asset.code) (
     member (codes "assetScale") (whole asset.scale) (
     member (codes "fees") (digits fees) (
@@ -120,16 +120,16 @@ address_added_data origin n address = object (
     optional (codes "publicName") (text_if address.name) (
     member (codes "url") (string (address_url origin address.path)) no_members)))))
 
-abbrev pub address_read_data : List ℕ → ℕ → List ℕ → (available posted : ℕ) → Data
-address_read_data origin n path available posted = object (
+abbrev pub address_inspected_data : List ℕ → ℕ → List ℕ → (available posted : ℕ) → Data
+address_inspected_data origin n path available posted = object (
     member (codes "available") (digits available) (
     member (codes "id") (string (id kinds.Address n)) (
     member (codes "posted") (digits posted) (
     member (codes "url") (string (address_url origin path)) no_members))))
 
 -- Open Payments, wallet address
-abbrev pub address_found_data : List ℕ → AddressShown → Data
-address_found_data origin address = object (
+abbrev pub address_read_data : List ℕ → AddressShown → Data
+address_read_data origin address = object (
     member (codes "assetCode") (string address.asset.code) (
     member (codes "assetScale") (whole address.asset.scale) (
     member (codes "authServer") (string (grant_url origin)) (
@@ -142,8 +142,8 @@ account_text origin accounts.Pool = codes "pool"
 account_text origin accounts.Fees = codes "fees"
 account_text origin (accounts.Address path) = address_url origin path
 
-abbrev pub moved_data : List ℕ → List ℕ → AccountShown → Amount → Data
-moved_data origin transfer account amount = object (
+abbrev pub transferred_data : List ℕ → List ℕ → AccountShown → Amount → Data
+transferred_data origin transfer account amount = object (
     member (codes "account") (string (account_text origin account)) (
     member (codes "amount") (amount_data amount) (
     member (codes "transferId") (string transfer) no_members)))
@@ -163,8 +163,8 @@ reason_text reason =
     else (if reason == 2 then Some (codes "receiver_closed")
     else (if reason == 3 then Some (codes "cancelled") else None))
 
-abbrev pub payment_data : ℕ → PaymentShown → Data
-payment_data n payment = object (
+abbrev pub outgoing_inspected_data : ℕ → ProgressShown → Data
+outgoing_inspected_data n payment = object (
     member (codes "delivered") (digits payment.delivered) (
     member (codes "fee") (digits payment.fee) (
     member (codes "id") (string (id kinds.Outgoing n)) (
@@ -293,12 +293,12 @@ list_data page rows = object (
     member (codes "pagination") page (
     member (codes "result") (list rows) no_members))
 
-abbrev pub incoming_list_data : List ℕ → List IncomingShown → (has_previous has_next : Bool) → Data
-incoming_list_data origin rows has_previous has_next =
+abbrev pub incomings_listed_data : List ℕ → List IncomingShown → (has_previous has_next : Bool) → Data
+incomings_listed_data origin rows has_previous has_next =
     list_data (page_data kinds.Incoming (map (λ row. row.number) rows) has_previous has_next) (map (incoming_data origin) rows)
 
-abbrev pub outgoing_list_data : List ℕ → List OutgoingShown → (has_previous has_next : Bool) → Data
-outgoing_list_data origin rows has_previous has_next =
+abbrev pub outgoings_listed_data : List ℕ → List OutgoingShown → (has_previous has_next : Bool) → Data
+outgoings_listed_data origin rows has_previous has_next =
     list_data (page_data kinds.Outgoing (map (λ row. row.number) rows) has_previous has_next) (map (outgoing_data origin) rows)
 
 -- ---- feeds: the members of a monetization event
@@ -311,8 +311,8 @@ event_data origin event = object (
     member (codes "incomingPayment") (string (incoming_url origin event.incoming)) (
     member (codes "paymentPointer") (string (address_url origin event.payee)) no_members)))
 
-abbrev pub feed_data : List ℕ → List FeedEvent → Data
-feed_data origin events = object (member (codes "events") (list (map (event_data origin) events)) no_members)
+abbrev pub feed_read_data : List ℕ → List FeedEvent → Data
+feed_read_data origin events = object (member (codes "events") (list (map (event_data origin) events)) no_members)
 
 -- ---- origins, and the redirect of an interaction (RFC 9635, section 4.2.1)
 
@@ -329,6 +329,6 @@ redirect_url origin redirect =
     ++ codes "hash=" ++ interaction_hash redirect.finish.nonce redirect.nonce redirect.reference (grant_url origin)
     ++ codes "&interact_ref=" ++ redirect.reference
 
-abbrev pub decided_data : List ℕ → Option Redirect → Data
-decided_data origin redirect = object (
+abbrev pub grant_decided_data : List ℕ → Option Redirect → Data
+grant_decided_data origin redirect = object (
     optional (codes "redirect") (option_map (λ r. string (redirect_url origin r)) redirect) no_members)

@@ -160,8 +160,8 @@ interact_in d = option_map_or (λ v. option_and_then interact_of (if_object v)) 
 
 -- ---- the two requests
 
-abbrev pub grant_asked : Data → Result Request Refusal
-grant_asked d = do
+abbrev pub ask_grant_members : Data → Result Request Refusal
+ask_grant_members d = do
   items ← or_bad (codes "access_token") (member_of (λ v. option_and_then access_in (if_object v)) (codes "access_token") d)
   client ← or_bad (codes "client") (client_in d)
   interact ← or_bad (codes "interact") (interact_in d)
@@ -183,12 +183,12 @@ is_reference text =
 abbrev pub reference_of : Data → Option (Option (List ℕ))
 reference_of d = option_map (λ text. if is_reference text then Some text else None) (as_str d)
 
-abbrev pub continuation_asked : Option ℕ → Data → Result Request Refusal
-continuation_asked grant d = do
+abbrev pub continue_grant_members : Option ℕ → Data → Result Request Refusal
+continue_grant_members grant d = do
   reference ← or_bad (codes "interact_ref") (optional_of reference_of (codes "interact_ref") d)
-  Ok (requests.Continue grant reference)
+  Ok (requests.ContinueGrant grant reference)
 
 -- an empty body has no members
-abbrev pub continuation_meant : Option ℕ → List ℕ → Result Request Refusal
-continuation_meant grant [] = Ok (requests.Continue grant None)
-continuation_meant grant (b ∷ body) = with_members (continuation_asked grant) (b ∷ body)
+abbrev pub continue_grant_meant : Option ℕ → List ℕ → Result Request Refusal
+continue_grant_meant grant [] = Ok (requests.ContinueGrant grant None)
+continue_grant_meant grant (b ∷ body) = with_members (continue_grant_members grant) (b ∷ body)

@@ -19,7 +19,7 @@ use Rattle.op_time.specs.MomentTexts.{moment_of}
 use Rattle.op_model.specs.Asking.{◌>>=◌}
 use Rattle.op_model.specs.Legal.{is_text}
 use Rattle.op_model.specs.Json.{text_in, number_of, number_in, optional_in, or_bad}
-use Rattle.op_model.specs.Metadata.{is_metadata}
+use Rattle.op_model.specs.Metadata.{is_metadata, if_plain_object}
 use Rattle.op_model.specs.declared.reply.Refusal.{Refusal}
 use Rattle.op_model.specs.declared.request.AccountName.{AccountName}
 use Rattle.op_model.specs.declared.request.AccountName.TheVariants as accounts
@@ -67,9 +67,12 @@ optional_of form name d = option_map_or (λ value. option_map (λ x. Some x) (fo
 abbrev pub rate_number : List ℕ → Option ℕ
 rate_number text = option_and_then (λ n. if nat_le 1 n && nat_le n RATE_TOP then Some n else None) (result_ok (value_of text))
 
--- metadata, by its printed form
+-- metadata: an object whose numbers are whole ones, by its printed form
+abbrev pub if_metadata : List ℕ → Option (List ℕ)
+if_metadata text = if is_metadata text then Some text else None
+
 abbrev pub metadata_of : Data → Option (List ℕ)
-metadata_of d = if is_metadata (compact_text d) then Some (compact_text d) else None
+metadata_of d = option_and_then (λ object. if_metadata (compact_text object)) (if_plain_object d)
 
 -- what a text names as an account: an address may name nothing
 abbrev pub account_of : List ℕ → AccountName
@@ -79,8 +82,8 @@ account_of text =
 
 -- ---- the provider's routes
 
-abbrev pub origin_asked : Data → Result Request Refusal
-origin_asked d = do
+abbrev pub set_origin_members : Data → Result Request Refusal
+set_origin_members d = do
   origin ← or_bad (codes "origin") (text_if is_origin (codes "origin") d)
   Ok (requests.SetOrigin origin)
 
@@ -88,30 +91,30 @@ origin_asked d = do
 abbrev pub pieces_in : Data → Option ℕ
 pieces_in d = option_map_or (number_of 1 64) (optional_in (codes "pieces") d) (Some 1)
 
-abbrev pub asset_asked : Data → Result Request Refusal
-asset_asked d = do
+abbrev pub add_asset_members : Data → Result Request Refusal
+add_asset_members d = do
   code ← or_bad (codes "assetCode") (code_in d)
   scale ← or_bad (codes "assetScale") (scale_in d)
   pieces ← or_bad (codes "pieces") (pieces_in d)
   Ok (requests.AddAsset (record { code = code; scale = scale }) pieces)
 
-abbrev pub address_asked : Data → Result Request Refusal
-address_asked d = do
+abbrev pub add_address_members : Data → Result Request Refusal
+add_address_members d = do
   path ← or_bad (codes "path") (text_if is_path (codes "path") d)
   code ← or_bad (codes "assetCode") (code_in d)
   scale ← or_bad (codes "assetScale") (scale_in d)
   name ← or_bad (codes "publicName") (optional_of (λ v. option_and_then (λ text. if is_text 128 text then Some text else None) (as_str v)) (codes "publicName") d)
   Ok (requests.AddAddress path (record { code = code; scale = scale }) name)
 
-abbrev pub transfer_asked : (List ℕ → AccountName → Amount → Request) → Data → Result Request Refusal
-transfer_asked request d = do
+abbrev pub transfer_members : (List ℕ → AccountName → Amount → Request) → Data → Result Request Refusal
+transfer_members request d = do
   transfer ← or_bad (codes "transferId") (text_if (is_word 64) (codes "transferId") d)
   account ← or_bad (codes "account") (text_in (codes "account") d)
   amount ← or_bad (codes "amount") (member_of amount_of (codes "amount") d)
   Ok (request transfer (account_of account) amount)
 
-abbrev pub rate_asked : Data → Result Request Refusal
-rate_asked d = do
+abbrev pub set_rate_members : Data → Result Request Refusal
+set_rate_members d = do
   source ← or_bad (codes "from") (member_of asset_of (codes "from") d)
   target ← or_bad (codes "to") (member_of asset_of (codes "to") d)
   num ← or_bad (codes "num") (option_and_then rate_number (text_in (codes "num") d))
@@ -123,8 +126,8 @@ rate_asked d = do
 abbrev pub moment_text_of : Data → Option ℕ
 moment_text_of d = option_and_then moment_of (as_str d)
 
-abbrev pub incoming_asked : Data → Result Request Refusal
-incoming_asked d = do
+abbrev pub make_incoming_members : Data → Result Request Refusal
+make_incoming_members d = do
   address ← or_bad (codes "walletAddress") (text_in (codes "walletAddress") d)
   amount ← or_bad (codes "incomingAmount") (optional_of amount_of (codes "incomingAmount") d)
   expiry ← or_bad (codes "expiresAt") (optional_of moment_text_of (codes "expiresAt") d)
@@ -138,8 +141,8 @@ quote_mode (Some debit) None = Some (asked.Debit debit)
 quote_mode None (Some receive) = Some (asked.Receive receive)
 quote_mode (Some debit) (Some receive) = None
 
-abbrev pub quote_asked : Data → Result Request Refusal
-quote_asked d = do
+abbrev pub make_quote_members : Data → Result Request Refusal
+make_quote_members d = do
   address ← or_bad (codes "walletAddress") (text_in (codes "walletAddress") d)
   receiver ← or_bad (codes "receiver") (text_in (codes "receiver") d)
   _ ← or_bad (codes "method") (text_if (bytes_eq (codes "ilp")) (codes "method") d)
@@ -148,8 +151,8 @@ quote_asked d = do
   mode ← or_bad (codes "receiveAmount") (quote_mode debit receive)
   Ok (requests.MakeQuote (address_in address) (row_in kinds.Incoming receiver) mode)
 
-abbrev pub outgoing_asked : Data → Result Request Refusal
-outgoing_asked d = do
+abbrev pub make_outgoing_members : Data → Result Request Refusal
+make_outgoing_members d = do
   address ← or_bad (codes "walletAddress") (text_in (codes "walletAddress") d)
   quote ← or_bad (codes "quoteId") (text_in (codes "quoteId") d)
   metadata ← or_bad (codes "metadata") (optional_of metadata_of (codes "metadata") d)

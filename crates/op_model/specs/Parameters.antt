@@ -68,8 +68,8 @@ optional_parameter form name target = option_map_or (λ value. option_map (λ x.
 abbrev pub first_default : ℕ
 first_default = 20
 
-abbrev pub list_asked : Kind → (Option AddressName → ℕ → Option ℕ → Request) → List ℕ → Result Request Refusal
-list_asked kind request target = do
+abbrev pub list_parameters : Kind → (Option AddressName → ℕ → Option ℕ → Request) → List ℕ → Result Request Refusal
+list_parameters kind request target = do
   address ← or_bad (codes "wallet-address") (text_parameter (codes "wallet-address") target)
   first ← or_bad (codes "first") (optional_parameter (digits_within 1 100) (codes "first") target)
   cursor ← or_bad (codes "cursor") (optional_parameter (number_named kind) (codes "cursor") target)
@@ -78,8 +78,8 @@ list_asked kind request target = do
 abbrev pub if_page : List ℕ → Option (List ℕ)
 if_page text = if is_page text then Some text else None
 
-abbrev pub feed_asked : List ℕ → Result Request Refusal
-feed_asked target = do
+abbrev pub read_feed_parameters : List ℕ → Result Request Refusal
+read_feed_parameters target = do
   address ← or_bad (codes "wallet-address") (text_parameter (codes "wallet-address") target)
   page ← or_bad (codes "page") (option_and_then if_page (text_parameter (codes "page") target))
   Ok (requests.ReadFeed (address_in address) page)

@@ -14,7 +14,7 @@ use Rattle.matchit.specs.declared.error.InsertError.{InsertError}
 use Rattle.op_names.specs.Forms.{is_slash, is_path}
 use Rattle.op_model.specs.declared.operation.Methods.{Methods}
 use Rattle.op_model.specs.declared.operation.Operation.{Operation}
-use Rattle.op_model.specs.declared.operation.Operation.TheVariants.{SetOrigin, AddAsset, ShowAsset, AddAddress, ShowAddress, Deposit, Withdraw, SetRate, AcceptInteraction, RejectInteraction, ShowPayment, CancelPayment, ReadAddress, AskGrant, ContinueGrant, CancelGrant, RotateToken, RevokeToken, CreateIncoming, ListIncoming, ReadIncoming, CompleteIncoming, CreateQuote, ReadQuote, CreateOutgoing, ListOutgoing, ReadOutgoing, ReadMonetization}
+use Rattle.op_model.specs.declared.operation.Operation.TheVariants.{SetOrigin, AddAsset, InspectAsset, AddAddress, InspectAddress, Deposit, Withdraw, SetRate, AcceptGrant, RejectGrant, InspectOutgoing, CancelOutgoing, ReadAddress, AskGrant, ContinueGrant, CancelGrant, RotateToken, RevokeToken, MakeIncoming, ListIncomings, ReadIncoming, CompleteIncoming, MakeQuote, ReadQuote, MakeOutgoing, ListOutgoings, ReadOutgoing, ReadFeed}
 use Rattle.op_model.specs.declared.reply.Refusal.{Refusal}
 use Rattle.op_model.specs.declared.reply.Refusal.TheVariants.{NotFound, MethodNotAllowed}
 
@@ -33,27 +33,27 @@ unfoldable pub places : List Place
 places =
     at (codes "/admin/origin") None None (Some SetOrigin)
     ∷ at (codes "/admin/assets") None None (Some AddAsset)
-    ∷ at (codes "/admin/assets/{code}/{scale}") None (Some ShowAsset) None
+    ∷ at (codes "/admin/assets/{code}/{scale}") None (Some InspectAsset) None
     ∷ at (codes "/admin/wallet-addresses") None None (Some AddAddress)
-    ∷ at (codes "/admin/wallet-addresses/{id}") None (Some ShowAddress) None
+    ∷ at (codes "/admin/wallet-addresses/{id}") None (Some InspectAddress) None
     ∷ at (codes "/admin/deposits") None None (Some Deposit)
     ∷ at (codes "/admin/withdrawals") None None (Some Withdraw)
     ∷ at (codes "/admin/rates") None None (Some SetRate)
-    ∷ at (codes "/admin/interactions/{id}/accept") None None (Some AcceptInteraction)
-    ∷ at (codes "/admin/interactions/{id}/reject") None None (Some RejectInteraction)
-    ∷ at (codes "/admin/outgoing-payments/{id}") None (Some ShowPayment) None
-    ∷ at (codes "/admin/outgoing-payments/{id}/cancel") None None (Some CancelPayment)
+    ∷ at (codes "/admin/interactions/{id}/accept") None None (Some AcceptGrant)
+    ∷ at (codes "/admin/interactions/{id}/reject") None None (Some RejectGrant)
+    ∷ at (codes "/admin/outgoing-payments/{id}") None (Some InspectOutgoing) None
+    ∷ at (codes "/admin/outgoing-payments/{id}/cancel") None None (Some CancelOutgoing)
     ∷ at (codes "/grant") None None (Some AskGrant)
     ∷ at (codes "/continue/{id}") (Some CancelGrant) None (Some ContinueGrant)
     ∷ at (codes "/token/{id}") (Some RevokeToken) None (Some RotateToken)
-    ∷ at (codes "/incoming-payments") None (Some ListIncoming) (Some CreateIncoming)
+    ∷ at (codes "/incoming-payments") None (Some ListIncomings) (Some MakeIncoming)
     ∷ at (codes "/incoming-payments/{id}") None (Some ReadIncoming) None
     ∷ at (codes "/incoming-payments/{id}/complete") None None (Some CompleteIncoming)
-    ∷ at (codes "/quotes") None None (Some CreateQuote)
+    ∷ at (codes "/quotes") None None (Some MakeQuote)
     ∷ at (codes "/quotes/{id}") None (Some ReadQuote) None
-    ∷ at (codes "/outgoing-payments") None (Some ListOutgoing) (Some CreateOutgoing)
+    ∷ at (codes "/outgoing-payments") None (Some ListOutgoings) (Some MakeOutgoing)
     ∷ at (codes "/outgoing-payments/{id}") None (Some ReadOutgoing) None
-    ∷ at (codes "/monetization") None (Some ReadMonetization) None
+    ∷ at (codes "/monetization") None (Some ReadFeed) None
     ∷ []
 
 -- an address path

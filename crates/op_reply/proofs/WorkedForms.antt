@@ -217,15 +217,15 @@ rate_set : told (bodies.RateSet usd eur (record { num = 3; den = 7 })) ≡ codes
 unfolding escape_byte digits
 rate_set = refl
 
-withdrawn_fees : told (bodies.Moved (codes "w-1") accounts.Fees (record { value = 10; asset = usd })) ≡ codes "HTTP/1.1 201 Created\r\nconnection: close\r\ncontent-length: 94\r\ncontent-type: application/json\r\n\r\n{\"account\":\"fees\",\"amount\":{\"assetCode\":\"USD\",\"assetScale\":2,\"value\":\"10\"},\"transferId\":\"w-1\"}"
+withdrawn_fees : told (bodies.Transferred (codes "w-1") accounts.Fees (record { value = 10; asset = usd })) ≡ codes "HTTP/1.1 201 Created\r\nconnection: close\r\ncontent-length: 94\r\ncontent-type: application/json\r\n\r\n{\"account\":\"fees\",\"amount\":{\"assetCode\":\"USD\",\"assetScale\":2,\"value\":\"10\"},\"transferId\":\"w-1\"}"
 unfolding escape_byte digits
 withdrawn_fees = refl
 
-decided_without_finish : told (bodies.Decided None) ≡ codes "HTTP/1.1 200 OK\r\nconnection: close\r\ncontent-length: 2\r\ncontent-type: application/json\r\n\r\n{}"
+decided_without_finish : told (bodies.GrantDecided None) ≡ codes "HTTP/1.1 200 OK\r\nconnection: close\r\ncontent-length: 2\r\ncontent-type: application/json\r\n\r\n{}"
 unfolding escape_byte digits
 decided_without_finish = refl
 
-failed_payment : told (bodies.PaymentRead 1 (record { state = states.Failed; step = 5; sent = 45; fee = 0; delivered = 19; reason = 2 })) ≡ codes "HTTP/1.1 200 OK\r\nconnection: close\r\ncontent-length: 137\r\ncontent-type: application/json\r\n\r\n{\"delivered\":\"19\",\"fee\":\"0\",\"id\":\"00000003-0000-8000-8000-000000000001\",\"reason\":\"receiver_closed\",\"sent\":\"45\",\"state\":\"FAILED\",\"step\":5}"
+failed_payment : told (bodies.OutgoingInspected 1 (record { state = states.Failed; step = 5; sent = 45; fee = 0; delivered = 19; reason = 2 })) ≡ codes "HTTP/1.1 200 OK\r\nconnection: close\r\ncontent-length: 137\r\ncontent-type: application/json\r\n\r\n{\"delivered\":\"19\",\"fee\":\"0\",\"id\":\"00000003-0000-8000-8000-000000000001\",\"reason\":\"receiver_closed\",\"sent\":\"45\",\"state\":\"FAILED\",\"step\":5}"
 unfolding escape_byte digits hex_on_literals hex_of
 failed_payment = refl
 
@@ -237,7 +237,7 @@ rotated : told (bodies.TokenRotated 3 (receiving ∷ []) (codes "a08080808080808
 unfolding escape_byte digits hex_on_literals hex_of
 rotated = refl
 
-cancelled : told bodies.Gone ≡ codes "HTTP/1.1 204 No Content\r\nconnection: close\r\n\r\n"
+cancelled : told bodies.NoContent ≡ codes "HTTP/1.1 204 No Content\r\nconnection: close\r\n\r\n"
 cancelled = refl
 
 -- ---- rows that are read
@@ -278,14 +278,14 @@ quote_read = refl
 abbrev event : ℕ → FeedEvent
 event sent = record { sent = amount sent; incoming = 1; payee = codes "/shop" }
 
-first_of_two : told (bodies.IncomingList (incoming false None ∷ []) false true) ≡ codes "HTTP/1.1 200 OK\r\nconnection: close\r\ncontent-length: 480\r\ncontent-type: application/json\r\n\r\n{\"pagination\":{\"endCursor\":\"00000001-0000-8000-8000-000000000001\",\"hasNextPage\":true,\"hasPreviousPage\":false,\"startCursor\":\"00000001-0000-8000-8000-000000000001\"},\"result\":[{\"completed\":false,\"createdAt\":\"2024-03-01T12:00:00.000Z\",\"expiresAt\":\"2024-03-31T12:00:00.000Z\",\"id\":\"https://wallet.example/incoming-payments/00000001-0000-8000-8000-000000000001\",\"methods\":[],\"receivedAmount\":{\"assetCode\":\"USD\",\"assetScale\":2,\"value\":\"0\"},\"walletAddress\":\"https://wallet.example/shop\"}]}"
+first_of_two : told (bodies.IncomingsListed (incoming false None ∷ []) false true) ≡ codes "HTTP/1.1 200 OK\r\nconnection: close\r\ncontent-length: 480\r\ncontent-type: application/json\r\n\r\n{\"pagination\":{\"endCursor\":\"00000001-0000-8000-8000-000000000001\",\"hasNextPage\":true,\"hasPreviousPage\":false,\"startCursor\":\"00000001-0000-8000-8000-000000000001\"},\"result\":[{\"completed\":false,\"createdAt\":\"2024-03-01T12:00:00.000Z\",\"expiresAt\":\"2024-03-31T12:00:00.000Z\",\"id\":\"https://wallet.example/incoming-payments/00000001-0000-8000-8000-000000000001\",\"methods\":[],\"receivedAmount\":{\"assetCode\":\"USD\",\"assetScale\":2,\"value\":\"0\"},\"walletAddress\":\"https://wallet.example/shop\"}]}"
 unfolding escape_byte digits hex_on_literals hex_of
 first_of_two = refl
 
-empty_page : told (bodies.OutgoingList [] true false) ≡ codes "HTTP/1.1 200 OK\r\nconnection: close\r\ncontent-length: 71\r\ncontent-type: application/json\r\n\r\n{\"pagination\":{\"hasNextPage\":false,\"hasPreviousPage\":true},\"result\":[]}"
+empty_page : told (bodies.OutgoingsListed [] true false) ≡ codes "HTTP/1.1 200 OK\r\nconnection: close\r\ncontent-length: 71\r\ncontent-type: application/json\r\n\r\n{\"pagination\":{\"hasNextPage\":false,\"hasPreviousPage\":true},\"result\":[]}"
 unfolding escape_byte digits
 empty_page = refl
 
-page_feed : told (bodies.Feed (event 1000 ∷ event 45 ∷ [])) ≡ codes "HTTP/1.1 200 OK\r\nconnection: close\r\ncontent-length: 401\r\ncontent-type: application/json\r\n\r\n{\"events\":[{\"amountSent\":{\"currency\":\"USD\",\"value\":\"10.00\"},\"incomingPayment\":\"https://wallet.example/incoming-payments/00000001-0000-8000-8000-000000000001\",\"paymentPointer\":\"https://wallet.example/shop\"},{\"amountSent\":{\"currency\":\"USD\",\"value\":\"0.45\"},\"incomingPayment\":\"https://wallet.example/incoming-payments/00000001-0000-8000-8000-000000000001\",\"paymentPointer\":\"https://wallet.example/shop\"}]}"
+page_feed : told (bodies.FeedRead (event 1000 ∷ event 45 ∷ [])) ≡ codes "HTTP/1.1 200 OK\r\nconnection: close\r\ncontent-length: 401\r\ncontent-type: application/json\r\n\r\n{\"events\":[{\"amountSent\":{\"currency\":\"USD\",\"value\":\"10.00\"},\"incomingPayment\":\"https://wallet.example/incoming-payments/00000001-0000-8000-8000-000000000001\",\"paymentPointer\":\"https://wallet.example/shop\"},{\"amountSent\":{\"currency\":\"USD\",\"value\":\"0.45\"},\"incomingPayment\":\"https://wallet.example/incoming-payments/00000001-0000-8000-8000-000000000001\",\"paymentPointer\":\"https://wallet.example/shop\"}]}"
 unfolding escape_byte digits hex_on_literals hex_of
 page_feed = refl

@@ -92,14 +92,14 @@ purchase =
     ∷ in_turn 1 (provider (requests.AddAddress (codes "/alice") usd (Some (codes "Alice"))))
     ∷ in_turn 2 (provider (requests.AddAddress (codes "/shop") usd None))
     ∷ in_turn 3 (provider (requests.Deposit (codes "dep-1") (accounts.Address (named (codes "/alice"))) (amount 10000)))
-    ∷ in_turn 4 (provider (requests.ShowAddress (codes "/alice")))
+    ∷ in_turn 4 (provider (requests.ReadAddress (codes "/alice")))
     ∷ in_turn 5 (shop (requests.AskGrant (item 1 7 ∷ []) (Some client) Missing))
     ∷ in_turn 6 (shop_with (codes "a05050505050505050505050505050505-5") (requests.MakeIncoming (named (codes "/shop")) (Some (amount 1000)) (Some 1709296200123) None))
     ∷ in_turn 7 (shop (requests.AskGrant (item 2 1 ∷ []) (Some client) Missing))
     ∷ record { turn = 8; fee = 10; task = shop_with (codes "a07070707070707070707070707070707-7") (requests.MakeQuote (named (codes "/alice")) (row kinds.Incoming 1) asked.Rest) }
     ∷ in_turn 9 (shop (requests.AskGrant (spending ∷ []) (Some client) (Redirect (Some finish))))
-    ∷ in_turn 10 (provider (requests.Accept (Some 3)))
-    ∷ in_turn 11 (shop_with (codes "c09090909090909090909090909090909-9") (requests.Continue (Some 3) (Some (Some (codes "i0a0a0a0a0a0a0a0a0a0a0a0a0a0a0a0a-10")))))
+    ∷ in_turn 10 (provider (requests.AcceptGrant (Some 3)))
+    ∷ in_turn 11 (shop_with (codes "c09090909090909090909090909090909-9") (requests.ContinueGrant (Some 3) (Some (Some (codes "i0a0a0a0a0a0a0a0a0a0a0a0a0a0a0a0a-10")))))
     ∷ in_turn 12 (shop_with (codes "a0b0b0b0b0b0b0b0b0b0b0b0b0b0b0b0b-11") (requests.MakeOutgoing (named (codes "/alice")) (row kinds.Quote 1) None))
     ∷ in_turn 12 (tasks.Step 1 0)
     ∷ in_turn 13 read_payment

@@ -115,18 +115,18 @@ acts_are_fifteen = refl
 abbrev read_at_the_end : Request → List ℕ
 read_at_the_end request = reply_after 19 (in_turn 16 (provider request))
 
-fees_are_told : read_at_the_end (requests.ReadAsset (Some usd)) ≡ codes "HTTP/1.1 200 OK\r\nconnection: close\r\ncontent-length: 84\r\ncontent-type: application/json\r\n\r\n{\"assetCode\":\"USD\",\"assetScale\":2,\"fees\":\"10\",\"pieces\":2,\"pool\":\"0\",\"total\":\"10000\"}"
+fees_are_told : read_at_the_end (requests.InspectAsset (Some usd)) ≡ codes "HTTP/1.1 200 OK\r\nconnection: close\r\ncontent-length: 84\r\ncontent-type: application/json\r\n\r\n{\"assetCode\":\"USD\",\"assetScale\":2,\"fees\":\"10\",\"pieces\":2,\"pool\":\"0\",\"total\":\"10000\"}"
 unfolding escape_byte digits hex_on_literals hex_of
 fees_are_told = refl
 
-alice_has : read_at_the_end (requests.ReadAddress (Some 1)) ≡ codes "HTTP/1.1 200 OK\r\nconnection: close\r\ncontent-length: 117\r\ncontent-type: application/json\r\n\r\n{\"available\":\"8990\",\"id\":\"00000006-0000-8000-8000-000000000001\",\"posted\":\"8990\",\"url\":\"https://wallet.example/alice\"}"
+alice_has : read_at_the_end (requests.InspectAddress (Some 1)) ≡ codes "HTTP/1.1 200 OK\r\nconnection: close\r\ncontent-length: 117\r\ncontent-type: application/json\r\n\r\n{\"available\":\"8990\",\"id\":\"00000006-0000-8000-8000-000000000001\",\"posted\":\"8990\",\"url\":\"https://wallet.example/alice\"}"
 unfolding escape_byte digits hex_on_literals hex_of
 alice_has = refl
 
-shop_has : read_at_the_end (requests.ReadAddress (Some 2)) ≡ codes "HTTP/1.1 200 OK\r\nconnection: close\r\ncontent-length: 116\r\ncontent-type: application/json\r\n\r\n{\"available\":\"1000\",\"id\":\"00000006-0000-8000-8000-000000000002\",\"posted\":\"1000\",\"url\":\"https://wallet.example/shop\"}"
+shop_has : read_at_the_end (requests.InspectAddress (Some 2)) ≡ codes "HTTP/1.1 200 OK\r\nconnection: close\r\ncontent-length: 116\r\ncontent-type: application/json\r\n\r\n{\"available\":\"1000\",\"id\":\"00000006-0000-8000-8000-000000000002\",\"posted\":\"1000\",\"url\":\"https://wallet.example/shop\"}"
 unfolding escape_byte digits hex_on_literals hex_of
 shop_has = refl
 
-payment_is_completed : read_at_the_end (requests.ReadPayment (Some 1)) ≡ codes "HTTP/1.1 200 OK\r\nconnection: close\r\ncontent-length: 118\r\ncontent-type: application/json\r\n\r\n{\"delivered\":\"1000\",\"fee\":\"10\",\"id\":\"00000003-0000-8000-8000-000000000001\",\"sent\":\"1000\",\"state\":\"COMPLETED\",\"step\":3}"
+payment_is_completed : read_at_the_end (requests.InspectOutgoing (Some 1)) ≡ codes "HTTP/1.1 200 OK\r\nconnection: close\r\ncontent-length: 118\r\ncontent-type: application/json\r\n\r\n{\"delivered\":\"1000\",\"fee\":\"10\",\"id\":\"00000003-0000-8000-8000-000000000001\",\"sent\":\"1000\",\"state\":\"COMPLETED\",\"step\":3}"
 unfolding escape_byte digits hex_on_literals hex_of
 payment_is_completed = refl

@@ -1,14 +1,14 @@
 //! The bodies of replies to the provider's own requests, and of a wallet address (Open Payments, wallet address).
 ghost use Rattle.std.specs.Prelude.{◌≡◌, IfOk, IfSome, ℕ};
 ghost use Rattle.std.specs.Str.{IsUtf8};
-ghost use Rattle.op_model.specs.Bodies.{origin_data, asset_added_data, asset_read_data, address_added_data, address_read_data, address_found_data, moved_data, rate_data, payment_data};
+ghost use Rattle.op_model.specs.Bodies.{origin_data, asset_added_data, asset_inspected_data, address_added_data, address_inspected_data, address_read_data, transferred_data, rate_data, outgoing_inspected_data};
 ghost use Rattle.op_reply.specs.Fields.{members_data, IsAccountText};
 ghost use Rattle.op_reply.specs.Values.{data_of};
 
 use crate::fields::{Field, object};
 use crate::values::Json;
 use op_amount::{Amount, Asset, Rate};
-use op_model::{AccountShown, AddressShown, PaymentShown, Text};
+use op_model::{AccountShown, AddressShown, ProgressShown, Text};
 use op_names::{AddressPath, Kind, Origin};
 use std::alloc::{AllocError, Global};
 
@@ -33,7 +33,7 @@ pub fn asset_added(alloc: Global, asset: &Asset, pieces: u8) -> Result<Json, All
 }
 
 /// An asset, and what stands on its pool and its fee account and in all.
-pub fn asset_read(
+pub fn asset_inspected(
     alloc: Global,
     asset: &Asset,
     pieces: u8,
@@ -41,7 +41,7 @@ pub fn asset_read(
     fees: u64,
     total: u64,
 ) -> Result<Json, AllocError>
-    ensures { IfOk result (λ json. data_of json ≡ asset_read_data asset.now pieces pool fees total) }
+    ensures { IfOk result (λ json. data_of json ≡ asset_inspected_data asset.now pieces pool fees total) }
 {
     object(
         alloc,
@@ -79,7 +79,7 @@ pub fn address_added<'x>(
     )
 }
 
-pub fn address_read<'x>(
+pub fn address_inspected<'x>(
     alloc: Global,
     origin: &'x Origin,
     number: u64,
@@ -89,7 +89,7 @@ pub fn address_read<'x>(
 ) -> Result<Json, AllocError>
     requires origin { IsUtf8 origin.now }
     requires path { IsUtf8 path.now }
-    ensures { IfOk result (λ json. data_of json ≡ address_read_data origin.now number path.now available posted) }
+    ensures { IfOk result (λ json. data_of json ≡ address_inspected_data origin.now number path.now available posted) }
 {
     object(
         alloc,
@@ -103,7 +103,7 @@ pub fn address_read<'x>(
 }
 
 /// A wallet address as anybody may see it, with the servers that its payments are asked from.
-pub fn address_found<'x>(
+pub fn address_read<'x>(
     alloc: Global,
     origin: &'x Origin,
     address: &'x AddressShown,
@@ -111,7 +111,7 @@ pub fn address_found<'x>(
     requires origin { IsUtf8 origin.now }
     requires path { IsUtf8 address.now.path }
     requires name { IfSome address.now.name IsUtf8 }
-    ensures { IfOk result (λ json. data_of json ≡ address_found_data origin.now address.now) }
+    ensures { IfOk result (λ json. data_of json ≡ address_read_data origin.now address.now) }
 {
     object(
         alloc,
@@ -127,7 +127,7 @@ pub fn address_found<'x>(
 }
 
 /// A deposit or a withdrawal.
-pub fn moved<'x>(
+pub fn transferred<'x>(
     alloc: Global,
     origin: &'x Origin,
     transfer: &'x Text,
@@ -136,7 +136,7 @@ pub fn moved<'x>(
 ) -> Result<Json, AllocError>
     requires account { IsAccountText origin.now account.now }
     requires transfer { IsUtf8 transfer.now }
-    ensures { IfOk result (λ json. data_of json ≡ moved_data origin.now transfer.now account.now amount.now) }
+    ensures { IfOk result (λ json. data_of json ≡ transferred_data origin.now transfer.now account.now amount.now) }
 {
     object(
         alloc,
@@ -168,8 +168,8 @@ pub fn rate<'x>(
 }
 
 /// How far an outgoing payment has come.
-pub fn payment(alloc: Global, number: u64, payment: &PaymentShown) -> Result<Json, AllocError>
-    ensures { IfOk result (λ json. data_of json ≡ payment_data number payment.now) }
+pub fn outgoing_inspected(alloc: Global, number: u64, payment: &ProgressShown) -> Result<Json, AllocError>
+    ensures { IfOk result (λ json. data_of json ≡ outgoing_inspected_data number payment.now) }
 {
     object(
         alloc,

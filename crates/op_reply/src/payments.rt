@@ -3,7 +3,7 @@
 ghost use Rattle.std.specs.Prelude.{◌≡◌, ℕ, List, IfOk, IfSome, map, option_map, slice_get};
 ghost use Rattle.std.specs.Str.{IsUtf8};
 ghost use Rattle.op_model.specs.History.{last as last_of};
-ghost use Rattle.op_model.specs.Bodies.{metadata_data, incoming_data, quote_data, outgoing_data, page_data, list_data, list, incoming_list_data, outgoing_list_data, event_data, feed_data};
+ghost use Rattle.op_model.specs.Bodies.{metadata_data, incoming_data, quote_data, outgoing_data, page_data, list_data, list, incomings_listed_data, outgoings_listed_data, event_data, feed_read_data};
 ghost use Rattle.op_reply.specs.Parts.{sent_data};
 ghost use Rattle.op_reply.specs.Values.{data_of};
 ghost use Rattle.op_reply.specs.Printable.{AreIncomingTexts, AreOutgoingTexts, AreEventTexts};
@@ -213,7 +213,7 @@ fn last_incoming(rows: &[IncomingShown]) -> Option<u64>
     Some(rows.last()?.number)
 }
 
-pub fn incoming_list(
+pub fn incomings_listed(
     alloc: Global,
     origin: &Origin,
     rows: &[IncomingShown],
@@ -222,7 +222,7 @@ pub fn incoming_list(
 ) -> Result<Json, AllocError>
     requires origin { IsUtf8 origin.now }
     requires texts { AreIncomingTexts rows.now }
-    ensures { IfOk result (λ json. data_of json ≡ incoming_list_data origin.now rows.now has_previous has_next) }
+    ensures { IfOk result (λ json. data_of json ≡ incomings_listed_data origin.now rows.now has_previous has_next) }
 {
     let (first, last) = (first_incoming(rows), last_incoming(rows));
     let page = page(alloc, Kind::Incoming, first, last, has_previous, has_next)?;
@@ -242,7 +242,7 @@ fn last_outgoing(rows: &[OutgoingShown]) -> Option<u64>
     Some(rows.last()?.number)
 }
 
-pub fn outgoing_list(
+pub fn outgoings_listed(
     alloc: Global,
     origin: &Origin,
     rows: &[OutgoingShown],
@@ -251,7 +251,7 @@ pub fn outgoing_list(
 ) -> Result<Json, AllocError>
     requires origin { IsUtf8 origin.now }
     requires texts { AreOutgoingTexts rows.now }
-    ensures { IfOk result (λ json. data_of json ≡ outgoing_list_data origin.now rows.now has_previous has_next) }
+    ensures { IfOk result (λ json. data_of json ≡ outgoings_listed_data origin.now rows.now has_previous has_next) }
 {
     let (first, last) = (first_outgoing(rows), last_outgoing(rows));
     let page = page(alloc, Kind::Outgoing, first, last, has_previous, has_next)?;
@@ -313,10 +313,10 @@ fn events(alloc: Global, origin: &Origin, shown: &[FeedEvent]) -> Result<Vec<Jso
     Ok(values)
 }
 
-pub fn feed(alloc: Global, origin: &Origin, shown: &[FeedEvent]) -> Result<Json, AllocError>
+pub fn feed_read(alloc: Global, origin: &Origin, shown: &[FeedEvent]) -> Result<Json, AllocError>
     requires origin { IsUtf8 origin.now }
     requires texts { AreEventTexts shown.now }
-    ensures { IfOk result (λ json. data_of json ≡ feed_data origin.now shown.now) }
+    ensures { IfOk result (λ json. data_of json ≡ feed_read_data origin.now shown.now) }
 {
     let events = Json::list(alloc, events(alloc, origin, shown)?)?;
     object(alloc, &[("events", Field::Json(&events))])

@@ -3,7 +3,7 @@ ghost use Rattle.std.specs.Prelude.{◌≡◌, ◌++◌, IfOk, IfSome, codes, op
 ghost use Rattle.std.specs.Str.{IsUtf8};
 ghost use Rattle.serde_json.specs.Data.{string};
 ghost use Rattle.op_names.specs.Interaction.{interaction_hash as hash_of};
-ghost use Rattle.op_model.specs.Bodies.{decided_data, redirect_url, grant_url, has_query};
+ghost use Rattle.op_model.specs.Bodies.{grant_decided_data, redirect_url, grant_url, has_query};
 ghost use Rattle.op_reply.specs.Printable.{IsRedirectText};
 ghost use Rattle.op_reply.specs.Values.{data_of};
 
@@ -68,13 +68,13 @@ fn redirect_if(
 }
 
 /// What is told of a decision: the redirect, where a finish was asked.
-pub fn decided(
+pub fn grant_decided(
     alloc: Global,
     origin: &Origin,
     redirect: &Option<Redirect>,
 ) -> Result<Json, AllocError>
     requires { IfSome redirect.now IsRedirectText }
-    ensures { IfOk result (λ json. data_of json ≡ decided_data origin.now redirect.now) }
+    ensures { IfOk result (λ json. data_of json ≡ grant_decided_data origin.now redirect.now) }
 {
     let redirect = redirect_if(alloc, origin, redirect)?;
     object(alloc, &[("redirect", Field::JsonIf(&redirect))])

@@ -22,42 +22,42 @@ pub fn said(alloc: Global, reply: &Reply) -> Result<Said<'_>, AllocError>
         ReplyBody::AssetAdded { asset, pieces } => {
             Ok(Said::created(admin::asset_added(alloc, asset, *pieces)?))
         }
-        ReplyBody::AssetRead {
+        ReplyBody::AssetInspected {
             asset,
             pieces,
             pool,
             fees,
             total,
-        } => { Ok(Said::ok(admin::asset_read(alloc, asset, *pieces, *pool, *fees, *total)?)) }
+        } => { Ok(Said::ok(admin::asset_inspected(alloc, asset, *pieces, *pool, *fees, *total)?)) }
         ReplyBody::AddressAdded { number, address } => {
             Ok(Said::created(admin::address_added(alloc, origin, *number, address)?))
         }
-        ReplyBody::AddressRead {
+        ReplyBody::AddressInspected {
             number,
             path,
             available,
             posted,
         } => {
-            Ok(Said::ok(admin::address_read(alloc, origin, *number, path, *available, *posted)?))
+            Ok(Said::ok(admin::address_inspected(alloc, origin, *number, path, *available, *posted)?))
         }
-        ReplyBody::Moved {
+        ReplyBody::Transferred {
             transfer,
             account,
             amount,
-        } => { Ok(Said::created(admin::moved(alloc, origin, transfer, account, amount)?)) }
+        } => { Ok(Said::created(admin::transferred(alloc, origin, transfer, account, amount)?)) }
         ReplyBody::RateSet {
             source,
             target,
             rate,
         } => { Ok(Said::ok(admin::rate(alloc, source, target, rate)?)) }
-        ReplyBody::Decided { redirect } => Ok(Said::ok(redirect::decided(
+        ReplyBody::GrantDecided { redirect } => Ok(Said::ok(redirect::grant_decided(
             alloc, origin, redirect,
         )?)),
-        ReplyBody::PaymentRead { number, payment } => {
-            Ok(Said::ok(admin::payment(alloc, *number, payment)?))
+        ReplyBody::OutgoingInspected { number, payment } => {
+            Ok(Said::ok(admin::outgoing_inspected(alloc, *number, payment)?))
         }
-        ReplyBody::AddressFound { address } => {
-            Ok(Said::ok(admin::address_found(alloc, origin, address)?))
+        ReplyBody::AddressRead { address } => {
+            Ok(Said::ok(admin::address_read(alloc, origin, address)?))
         }
         ReplyBody::GrantIssued {
             number,
@@ -88,19 +88,19 @@ pub fn said(alloc: Global, reply: &Reply) -> Result<Said<'_>, AllocError>
             items,
             access,
         } => { Ok(Said::ok(grants::rotated(alloc, origin, *number, items.as_slice(), access)?)) }
-        ReplyBody::Gone => Ok(Said::gone()),
+        ReplyBody::NoContent => Ok(Said::gone()),
         ReplyBody::IncomingMade { incoming } => {
             Ok(Said::created(payments::incoming(alloc, origin, incoming)?))
         }
         ReplyBody::IncomingRead { incoming } => {
             Ok(Said::ok(payments::incoming(alloc, origin, incoming)?))
         }
-        ReplyBody::IncomingList {
+        ReplyBody::IncomingsListed {
             rows,
             has_previous,
             has_next,
         } => {
-            Ok(Said::ok(payments::incoming_list(
+            Ok(Said::ok(payments::incomings_listed(
                 alloc,
                 origin,
                 rows.as_slice(),
@@ -116,12 +116,12 @@ pub fn said(alloc: Global, reply: &Reply) -> Result<Said<'_>, AllocError>
         ReplyBody::OutgoingRead { outgoing } => {
             Ok(Said::ok(payments::outgoing(alloc, origin, outgoing)?))
         }
-        ReplyBody::OutgoingList {
+        ReplyBody::OutgoingsListed {
             rows,
             has_previous,
             has_next,
         } => {
-            Ok(Said::ok(payments::outgoing_list(
+            Ok(Said::ok(payments::outgoings_listed(
                 alloc,
                 origin,
                 rows.as_slice(),
@@ -129,7 +129,7 @@ pub fn said(alloc: Global, reply: &Reply) -> Result<Said<'_>, AllocError>
                 *has_next,
             )?))
         }
-        ReplyBody::Feed { events } => Ok(Said::ok(payments::feed(
+        ReplyBody::FeedRead { events } => Ok(Said::ok(payments::feed_read(
             alloc,
             origin,
             events.as_slice(),

@@ -77,7 +77,7 @@ fn an_empty_reply_has_no_content_fields(rt: HostRuntime) -> Result<(), Fail> {
     str::from_utf8(origin.as_bytes())?;
     let reply = Reply {
         origin,
-        body: ReplyBody::Gone,
+        body: ReplyBody::NoContent,
     };
     let printed = print_reply(alloc, &reply)?;
     expect_text(
@@ -168,7 +168,7 @@ fn a_redirect_goes_behind_a_query(rt: HostRuntime) -> Result<(), Fail> {
         nonce,
         reference,
     });
-    let body = ReplyBody::Decided { redirect };
+    let body = ReplyBody::GrantDecided { redirect };
     let printed = print_reply(alloc, &Reply { origin, body })?;
     expect_text(
         &rt,

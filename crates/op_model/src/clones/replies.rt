@@ -332,13 +332,13 @@ impl ReplyBody {
                 asset: *asset,
                 pieces: *pieces,
             }),
-            ReplyBody::AssetRead {
+            ReplyBody::AssetInspected {
                 asset,
                 pieces,
                 pool,
                 fees,
                 total,
-            } => Ok(ReplyBody::AssetRead {
+            } => Ok(ReplyBody::AssetInspected {
                 asset: *asset,
                 pieces: *pieces,
                 pool: *pool,
@@ -349,22 +349,22 @@ impl ReplyBody {
                 number: *number,
                 address: address.clone(alloc)?,
             }),
-            ReplyBody::AddressRead {
+            ReplyBody::AddressInspected {
                 number,
                 path,
                 available,
                 posted,
-            } => Ok(ReplyBody::AddressRead {
+            } => Ok(ReplyBody::AddressInspected {
                 number: *number,
                 path: path.clone(alloc)?,
                 available: *available,
                 posted: *posted,
             }),
-            ReplyBody::Moved {
+            ReplyBody::Transferred {
                 transfer,
                 account,
                 amount,
-            } => Ok(ReplyBody::Moved {
+            } => Ok(ReplyBody::Transferred {
                 transfer: transfer.clone(alloc)?,
                 account: account.clone(alloc)?,
                 amount: *amount,
@@ -378,14 +378,14 @@ impl ReplyBody {
                 target: *target,
                 rate: *rate,
             }),
-            ReplyBody::Decided { redirect } => Ok(ReplyBody::Decided {
+            ReplyBody::GrantDecided { redirect } => Ok(ReplyBody::GrantDecided {
                 redirect: clone_redirect(redirect, alloc)?,
             }),
-            ReplyBody::PaymentRead { number, payment } => Ok(ReplyBody::PaymentRead {
+            ReplyBody::OutgoingInspected { number, payment } => Ok(ReplyBody::OutgoingInspected {
                 number: *number,
                 payment: *payment,
             }),
-            ReplyBody::AddressFound { address } => Ok(ReplyBody::AddressFound {
+            ReplyBody::AddressRead { address } => Ok(ReplyBody::AddressRead {
                 address: address.clone(alloc)?,
             }),
             ReplyBody::GrantIssued {
@@ -424,18 +424,18 @@ impl ReplyBody {
                 items: items.clone(alloc)?,
                 access: *access,
             }),
-            ReplyBody::Gone => Ok(ReplyBody::Gone),
+            ReplyBody::NoContent => Ok(ReplyBody::NoContent),
             ReplyBody::IncomingMade { incoming } => Ok(ReplyBody::IncomingMade {
                 incoming: incoming.clone(alloc)?,
             }),
             ReplyBody::IncomingRead { incoming } => Ok(ReplyBody::IncomingRead {
                 incoming: incoming.clone(alloc)?,
             }),
-            ReplyBody::IncomingList {
+            ReplyBody::IncomingsListed {
                 rows,
                 has_previous,
                 has_next,
-            } => Ok(ReplyBody::IncomingList {
+            } => Ok(ReplyBody::IncomingsListed {
                 rows: rows.clone(alloc)?,
                 has_previous: *has_previous,
                 has_next: *has_next,
@@ -452,16 +452,16 @@ impl ReplyBody {
             ReplyBody::OutgoingRead { outgoing } => Ok(ReplyBody::OutgoingRead {
                 outgoing: outgoing.clone(alloc)?,
             }),
-            ReplyBody::OutgoingList {
+            ReplyBody::OutgoingsListed {
                 rows,
                 has_previous,
                 has_next,
-            } => Ok(ReplyBody::OutgoingList {
+            } => Ok(ReplyBody::OutgoingsListed {
                 rows: rows.clone(alloc)?,
                 has_previous: *has_previous,
                 has_next: *has_next,
             }),
-            ReplyBody::Feed { events } => Ok(ReplyBody::Feed {
+            ReplyBody::FeedRead { events } => Ok(ReplyBody::FeedRead {
                 events: events.clone(alloc)?,
             }),
             ReplyBody::Refused(value) => Ok(ReplyBody::Refused(value.clone(alloc)?)),

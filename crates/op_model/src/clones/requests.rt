@@ -138,13 +138,13 @@ impl Request {
                 asset: *asset,
                 pieces: *pieces,
             }),
-            Request::ReadAsset { asset } => Ok(Request::ReadAsset { asset: *asset }),
+            Request::InspectAsset { asset } => Ok(Request::InspectAsset { asset: *asset }),
             Request::AddAddress { path, asset, name } => Ok(Request::AddAddress {
                 path: path.clone(alloc)?,
                 asset: *asset,
                 name: clone_text(name, alloc)?,
             }),
-            Request::ReadAddress { address } => Ok(Request::ReadAddress { address: *address }),
+            Request::InspectAddress { address } => Ok(Request::InspectAddress { address: *address }),
             Request::Deposit {
                 transfer,
                 account,
@@ -172,11 +172,11 @@ impl Request {
                 target: *target,
                 rate: *rate,
             }),
-            Request::Accept { grant } => Ok(Request::Accept { grant: *grant }),
-            Request::Reject { grant } => Ok(Request::Reject { grant: *grant }),
-            Request::ReadPayment { payment } => Ok(Request::ReadPayment { payment: *payment }),
-            Request::CancelPayment { payment } => Ok(Request::CancelPayment { payment: *payment }),
-            Request::ShowAddress { path } => Ok(Request::ShowAddress {
+            Request::AcceptGrant { grant } => Ok(Request::AcceptGrant { grant: *grant }),
+            Request::RejectGrant { grant } => Ok(Request::RejectGrant { grant: *grant }),
+            Request::InspectOutgoing { payment } => Ok(Request::InspectOutgoing { payment: *payment }),
+            Request::CancelOutgoing { payment } => Ok(Request::CancelOutgoing { payment: *payment }),
+            Request::ReadAddress { path } => Ok(Request::ReadAddress {
                 path: path.clone(alloc)?,
             }),
             Request::AskGrant {
@@ -188,7 +188,7 @@ impl Request {
                 client: clone_client(client, alloc)?,
                 interact: interact.clone(alloc)?,
             }),
-            Request::Continue { grant, reference } => Ok(Request::Continue {
+            Request::ContinueGrant { grant, reference } => Ok(Request::ContinueGrant {
                 grant: *grant,
                 reference: *reference,
             }),

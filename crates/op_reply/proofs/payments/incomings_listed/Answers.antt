@@ -2,7 +2,7 @@ use Rattle.std.proofs.Common.{◌≡◌, map, sym, ap, ◌∙◌}
 use Rattle.op_names.specs.declared.Kind.TheVariants.{Incoming}
 use Rattle.op_model.specs.Bodies.{incoming_data, page_data, list}
 use Rattle.op_reply.specs.Values.{data_of}
-use Rattle.op_reply.proofs.payments.incoming_list.Goals as goal
+use Rattle.op_reply.proofs.payments.incomings_listed.Goals as goal
 
 pub returns : goal.returns
 returns c =

@@ -2,7 +2,7 @@ use Rattle.std.proofs.Common.{◌≡◌, map, sym, ap, ◌∙◌}
 use Rattle.op_names.specs.declared.Kind.TheVariants.{Outgoing}
 use Rattle.op_model.specs.Bodies.{outgoing_data, page_data, list}
 use Rattle.op_reply.specs.Values.{data_of}
-use Rattle.op_reply.proofs.payments.outgoing_list.Goals as goal
+use Rattle.op_reply.proofs.payments.outgoings_listed.Goals as goal
 
 pub returns : goal.returns
 returns c =
