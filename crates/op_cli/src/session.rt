@@ -5,7 +5,7 @@ ghost use Rattle.std.specs.Str.{IsUtf8};
 ghost use Rattle.op_causes.specs.Causes.{Rose};
 ghost use Rattle.op_desk.specs.Batches.{history_in};
 ghost use Rattle.op_desk.specs.Built.{is_built_task};
-ghost use Rattle.op_desk.specs.Spelling.{Spells, Stands, history_of};
+ghost use Rattle.op_desk.specs.Spelling.{Stands, history_of};
 ghost use Rattle.op_desk.specs.Wallets.{IsSound, Handles};
 ghost use Rattle.op_model.specs.History.{moment_of_turn};
 ghost use Rattle.op_model.specs.Legal.{is_proper};
@@ -141,7 +141,6 @@ fn end_round<D: Disk, K: Sink>(
 ) -> Result<(), End>
     requires running { desk.old.closed ≡ false }
     requires stands { IsTrue D.tells → (rounds : List (List Entry)) × (history_of rounds ≡ round.batch.begun) × Stands rounds desk.old.tail (D.seen disk.old) (D.images disk.old) }
-    requires spelled { IsTrue D.tells → (c : List ℕ) → D.images disk.old c → Spells round.batch.begun c }
     requires sound { IsSound round.batch.begun }
 
     ensures whole { OnOk result (history_at desk.new ≡ history_in round.batch) }

@@ -77,7 +77,7 @@ returns-in-Err-Refused-clause-ok g c =
         subst (λ (asked : Result Request Refusal). Answers (now stood) verdict c.args.answer c.args.word.now asked (refusal_reply (now stood) refusal) []) (sym meant_so) (answers_refused (now stood) verdict c.args.answer c.args.word.now refusal),
         subst (λ (h : List Entry). Appends (g.K.Sink.written c.args.sink.now) (g.K.Sink.written c.refuse_one.new.sink) (printed (refusal_reply h refusal))) (sym is) written,
       ),
-      leaves_none g.D.Disk.tells g.D.Disk.seen g.D.Disk.moment g.D.Disk.since g.D.Disk.images g.D.Disk.faults g.met.D.Disk.only_now history c.args.disk.now c.requires.sound c.requires.ready.spelled stood is,
+      leaves_none g.D.Disk.tells g.D.Disk.seen g.D.Disk.moment g.D.Disk.since g.D.Disk.images g.D.Disk.faults g.met.D.Disk.only_now history c.args.disk.now c.requires.sound stood is,
     ))
     c.refuse_one.ensures.ok
 
@@ -93,7 +93,7 @@ returns-in-Err-Refused-clause-err g c =
       not_told_refused stood _ _ c.args.answer c.args.word.now verdict (meant c.args.raw.now) (refusal_reply (now stood) refusal) end
           (subst (λ (asked : Result Request Refusal). Answers (now stood) verdict c.args.answer c.args.word.now asked (refusal_reply (now stood) refusal) []) (sym meant_so) (answers_refused (now stood) verdict c.args.answer c.args.word.now refusal))
           (subst (λ (h : List Entry). NotWritten (refusal_reply h refusal) (g.K.Sink.written c.args.sink.now) (g.K.Sink.written c.refuse_one.new.sink) end) (sym is) failed),
-      leaves_same g.D.Disk.tells g.D.Disk.seen g.D.Disk.moment g.D.Disk.since g.D.Disk.images g.D.Disk.faults g.met.D.Disk.only_now history c.args.disk.now c.requires.sound c.requires.ready.spelled stood is,
+      leaves_same g.D.Disk.tells g.D.Disk.seen g.D.Disk.moment g.D.Disk.since g.D.Disk.images g.D.Disk.faults g.met.D.Disk.only_now history c.args.disk.now c.requires.sound stood is,
     ))
     c.refuse_one.ensures.err
 
@@ -110,7 +110,7 @@ returns-in-Err-Memory-clause-ok g c =
         answers_wanting (now stood) verdict c.args.answer c.args.word.now (meant c.args.raw.now),
         subst (λ (h : List Entry). Appends (g.K.Sink.written c.args.sink.now) (g.K.Sink.written c.refuse_one-in-Err-Memory.new.sink) (printed (refusal_reply h Memory))) (sym is) written,
       ),
-      leaves_none g.D.Disk.tells g.D.Disk.seen g.D.Disk.moment g.D.Disk.since g.D.Disk.images g.D.Disk.faults g.met.D.Disk.only_now history c.args.disk.now c.requires.sound c.requires.ready.spelled stood is,
+      leaves_none g.D.Disk.tells g.D.Disk.seen g.D.Disk.moment g.D.Disk.since g.D.Disk.images g.D.Disk.faults g.met.D.Disk.only_now history c.args.disk.now c.requires.sound stood is,
     ))
     c.refuse_one-in-Err-Memory.ensures.ok
 
@@ -123,6 +123,6 @@ returns-in-Err-Memory-clause-err g c =
       settled stood,
       not_told_refused stood _ _ c.args.answer c.args.word.now verdict (meant c.args.raw.now) (refusal_reply (now stood) Memory) end (answers_wanting (now stood) verdict c.args.answer c.args.word.now (meant c.args.raw.now))
           (subst (λ (h : List Entry). NotWritten (refusal_reply h Memory) (g.K.Sink.written c.args.sink.now) (g.K.Sink.written c.refuse_one-in-Err-Memory.new.sink) end) (sym is) failed),
-      leaves_same g.D.Disk.tells g.D.Disk.seen g.D.Disk.moment g.D.Disk.since g.D.Disk.images g.D.Disk.faults g.met.D.Disk.only_now history c.args.disk.now c.requires.sound c.requires.ready.spelled stood is,
+      leaves_same g.D.Disk.tells g.D.Disk.seen g.D.Disk.moment g.D.Disk.since g.D.Disk.images g.D.Disk.faults g.met.D.Disk.only_now history c.args.disk.now c.requires.sound stood is,
     ))
     c.refuse_one-in-Err-Memory.ensures.err

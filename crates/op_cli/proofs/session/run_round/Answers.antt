@@ -46,4 +46,4 @@ returns-in-Some-clause-err g c =
 
 pub returns-in-None-clause-err : goal.returns-in-None-clause-err
 returns-in-None-clause-err g c stood is =
-    (settled stood, (keeps_same _, refl), leaves_same g.D.Disk.tells g.D.Disk.seen g.D.Disk.moment g.D.Disk.since g.D.Disk.images g.D.Disk.faults g.met.D.Disk.only_now (history_at c.args.desk.now) c.args.disk.now c.requires.sound c.requires.ready.spelled stood is)
+    (settled stood, (keeps_same _, refl), leaves_same g.D.Disk.tells g.D.Disk.seen g.D.Disk.moment g.D.Disk.since g.D.Disk.images g.D.Disk.faults g.met.D.Disk.only_now (history_at c.args.desk.now) c.args.disk.now c.requires.sound stood is)

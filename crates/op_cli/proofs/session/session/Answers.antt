@@ -20,7 +20,7 @@ loop-answered-init g c =
         stands = now_opened first;
         goes_on = λ after end final session.
             subst (λ (standing : Standing). Session standing after end final) (ap (λ (held : Held). here (opened_with first) held world 0) c.new-reader.ensures ∙ begins_fresh first world) session;
-        kept = kept_first g.D.Disk.tells g.D.Disk.seen g.D.Disk.moment g.D.Disk.since g.D.Disk.images g.D.Disk.faults g.met.D.Disk.only_now first c.args.outside.now.disk c.requires.sound c.requires.ready.spelled;
+        kept = kept_first g.D.Disk.tells g.D.Disk.seen g.D.Disk.moment g.D.Disk.since g.D.Disk.images g.D.Disk.faults g.met.D.Disk.only_now first c.args.outside.now.disk c.requires.sound;
         ready = c.requires.ready;
         at = omega (arith, ap (λ (held : Held). held.at) c.new-reader.ensures);
         read_kept = refl;

@@ -37,7 +37,7 @@ returns-in-Ok-None-clause-err g c stood is =
     let ended = rw c.in-Ok-None.field-0-is at c.in-Ok-None.ensures.reads in (
       settled stood,
       stream_ended _ _ _ _ _ ended,
-      leaves_same g.D.Disk.tells g.D.Disk.seen g.D.Disk.moment g.D.Disk.since g.D.Disk.images g.D.Disk.faults g.met.D.Disk.only_now (history_at c.args.desk.now) c.args.outside.now.disk c.requires.sound c.requires.ready.spelled stood is,
+      leaves_same g.D.Disk.tells g.D.Disk.seen g.D.Disk.moment g.D.Disk.since g.D.Disk.images g.D.Disk.faults g.met.D.Disk.only_now (history_at c.args.desk.now) c.args.outside.now.disk c.requires.sound stood is,
     )
 
 pub returns-in-Err-clause-err : goal.returns-in-Err-clause-err
@@ -45,5 +45,5 @@ returns-in-Err-clause-err g c stood is = (
   settled stood,
   unread_stops _ _ _ _ _ _ c.unread.result c.in-Err.fault c.in-Err.ensures.reads
       (subst (λ (h : List Entry). Unread h c.in-Err.fault (g.K.Sink.written c.args.outside.now.sink) (g.K.Sink.written c.unread.new.sink) c.unread.result) (sym is) c.unread.ensures.end),
-  leaves_same g.D.Disk.tells g.D.Disk.seen g.D.Disk.moment g.D.Disk.since g.D.Disk.images g.D.Disk.faults g.met.D.Disk.only_now (history_at c.args.desk.now) c.args.outside.now.disk c.requires.sound c.requires.ready.spelled stood is,
+  leaves_same g.D.Disk.tells g.D.Disk.seen g.D.Disk.moment g.D.Disk.since g.D.Disk.images g.D.Disk.faults g.met.D.Disk.only_now (history_at c.args.desk.now) c.args.outside.now.disk c.requires.sound stood is,
 )
