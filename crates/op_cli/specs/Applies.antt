@@ -7,6 +7,7 @@ use Rattle.op_desk.specs.declared.fault.DeskFault.{DeskFault}
 use Rattle.op_desk.specs.declared.fault.DeskFault.TheVariants as faults
 use Rattle.op_disk.specs.Calls.{LeavesOnly}
 use Rattle.op_journal.specs.Recovered.{IsOldOrShort}
+use Rattle.op_model.specs.Round.{Terms}
 use Rattle.op_session.specs.Program.{code_of, illegal_code}
 use Rattle.op_session.specs.Session.{Final, Session, begun, IsCompleteKnown}
 use Rattle.op_session.specs.Stood.{now, with_rounds}
@@ -44,15 +45,15 @@ pub record EveryMoment {D : Type 0} (seen : D → List ℕ) (moment : D → ℕ)
   pub least : opened + 4 * length final.stands.rounds ≤ moment new
   pub most : moment new ≤ opened + 4 * length final.tried.rounds
 
--- The journal is opened, and a session runs on the history that its disk spells.
-pub record RunsOn {D : Type 0} (tells : Bool) (seen : D → List ℕ) (moment : D → ℕ) (since : D → ℕ → List ℕ → Type 0) (images : D → List ℕ → Type 0) (faults : D → ℕ) (old new : D) (before after : World) (code : ℕ) : Type 0 where
+-- The journal is opened, and a session runs on the history that its disk spells, under the terms of the fee rule.
+pub record RunsOn {D : Type 0} (allows : Terms) (tells : Bool) (seen : D → List ℕ) (moment : D → ℕ) (since : D → ℕ → List ℕ → Type 0) (images : D → List ℕ → Type 0) (faults : D → ℕ) (old new : D) (before after : World) (code : ℕ) : Type 0 where
   pub first : List Entry
   pub end : End
   pub final : Final
   -- the session begins with the history that the disk spelled, whichever that was
   pub found : IsTrue tells → Spells first (seen old)
   pub continues : IsTrue tells → (history : List Entry) → Spells history (seen old) → first ≡ history
-  pub session : Session (begun first before) after end final
+  pub session : Session allows (begun first before) after end final
   pub status : code ≡ code_of end
   pub complete : IsCompleteKnown end session.turns final before after
   -- what stands goes on from there by whole rounds, and is legal and made of acts that are built, with the round that a failed

@@ -21,9 +21,9 @@ returns-in-Ok-clause-replies g c =
     let ran = c.session.ensures.session in
     let kept = ran.2 in
     let endures : (told : IsTrue g.D.Disk.tells) → Endures g.D.Disk.moment g.D.Disk.since g.D.Disk.images (c.in-Ok.ensures.calls told).0 ran.0 opened new = λ told.
-        let calls = c.in-Ok.ensures.calls told in
-        let later = c.in-Ok.ensures.past_sync told (λ e. cc) in
-        kept.endures told calls.0 (opened_spells g.D.Disk.seen g.D.Disk.moment g.D.Disk.since g.D.Disk.images g.met.D.Disk.counts_now calls.0 old opened calls.1 later (c.in-Ok.ensures.synced told later)) in
+    let calls = c.in-Ok.ensures.calls told in
+    let later = c.in-Ok.ensures.past_sync told (λ e. cc) in
+    kept.endures told calls.0 (opened_spells g.D.Disk.seen g.D.Disk.moment g.D.Disk.since g.D.Disk.images g.met.D.Disk.counts_now calls.0 old opened calls.1 later (c.in-Ok.ensures.synced told later)) in
     inr (record {
       first = first;
       end = c.session.result;
@@ -32,7 +32,7 @@ returns-in-Ok-clause-replies g c =
       continues = λ told history spelled. whole_is c.in-Ok.desk history (c.in-Ok.ensures.alone told history spelled);
       session = ran.1;
       status = c.code_of.ensures;
-      complete = complete _ _ first ran.0 c.session.result ran.1;
+      complete = complete g.F.FeeTerms.allows _ _ first ran.0 c.session.result ran.1;
       stands = kept.begins;
       tried = kept.tried;
       sound = kept.sound;
