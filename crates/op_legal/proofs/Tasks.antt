@@ -93,6 +93,14 @@ step_of_row : (history : List Entry) (t p k : ℕ) (found : Option OutgoingRow) 
 step_of_row history t p k None act is = none_is_not act is
 step_of_row history t p k (Some row) act is = asked_step history p k (step_answer history p row k t) act (answer_is history p row k t) is
 
+-- the answer of a step that acts
+taken_of_row : (history : List Entry) (t p k : ℕ) (found : Option OutgoingRow) (act : Act) → (option_map_or (step_outcome history t p k) found (replied history bodies.NotDue None)).act ≡ Some act → (answer : StepAnswer) × (step_act p k answer ≡ Some act)
+taken_of_row history t p k None act is = none_is_not act is
+taken_of_row history t p k (Some row) act is = (step_answer history p row k t, is)
+
+pub step_taken : (history : List Entry) (t : ℕ) (word : List ℕ) (fee p k : ℕ) (act : Act) → (answer history t word fee (Step p k)).act ≡ Some act → (answer : StepAnswer) × (step_act p k answer ≡ Some act)
+step_taken history t word fee p k act is = taken_of_row history t p k (outgoing_row history p) act is
+
 pub step_spells : (history : List Entry) (t : ℕ) (word : List ℕ) (fee p k : ℕ) (act : Act) → IsTrue (is_proper history (Step p k)) → (answer history t word fee (Step p k)).act ≡ Some act → SpellsItself history t act
 step_spells history t word fee p k act proper is =
     spells history t (Step p k) act (step_of_row history t p k (outgoing_row history p) act is) proper tt is

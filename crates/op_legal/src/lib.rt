@@ -1,9 +1,8 @@
-//! What is answered is legal. Each function does nothing: its contract is the law.
+//! What is answered is legal, and what holds of every legal history. Each function does nothing: its contract is the law.
 #![tactic(auto)]
 
-ghost use Rattle.op_legal.specs.Keeps.{AnswersKeepLegal};
+mod answers;
+mod rounds;
 
-/// The act that a task is answered may follow the history, whether that is legal or not.
-pub fn answers_keep_legal()
-    ensures { AnswersKeepLegal }
-{}
+pub use answers::{answers_keep_legal, beginnings_are_legal, tasks_stay_proper};
+pub use rounds::{plain_rounds_keep_legal, rounds_keep_legal, steps_act_once};
