@@ -176,8 +176,14 @@ fields_at kind =
     (if nat_le kind 10 then receiving_at kind else
     (if nat_le kind 18 then grant_at kind else sending_at kind))
 
-unfoldable pub act_at : Reader Act
-act_at = bind (byte_between 1 24) fields_at
+-- a kind up to the highest that is known, and the fields of its act
+unfoldable pub act_at : (highest : ℕ) → Reader Act
+act_at highest = bind (byte_between 1 highest) fields_at
 
+-- the record of an entry, as version 1 has it
 unfoldable pub entry_at : Reader Entry
-entry_at = bind moment_at (λ at. bind act_at (λ act. done (record { at = at; act = act })))
+entry_at = bind moment_at (λ at. bind (act_at 24) (λ act. done (record { at = at; act = act })))
+
+-- an entry of a round of version 2, whose moment was said before
+unfoldable pub entry_of_round_at : (at : ℕ) → Reader Entry
+entry_of_round_at at = bind (act_at 24) (λ act. done (record { at = at; act = act }))

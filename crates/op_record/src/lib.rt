@@ -7,6 +7,7 @@ mod grants;
 mod laws;
 mod lengths;
 mod reading;
+mod rounds;
 #[cfg(test)]
 mod tests;
 mod writing;

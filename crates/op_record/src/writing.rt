@@ -8,7 +8,7 @@ ghost use Rattle.op_model.specs.declared.act.Act.TheVariants as acts;
 ghost use Rattle.op_model.specs.declared.grant.Item.{Item};
 ghost use Rattle.op_record.specs.Fields.{number, text, optional, account, mode_number, reason_number, cap, limits, item, items, finish};
 ghost use Rattle.op_record.specs.Records.{act_of, record_of};
-ghost use Rattle.op_record.specs.Recordable.{IsShort, AreLimits, IsFinish, IsItem, AreAbove, AreItems, IsRecordableAct, IsRecordable};
+ghost use Rattle.op_record.specs.Recordable.{IsShort, AreLimits, IsFinish, IsItem, AreAbove, AreItems, IsWithinLimits, IsRecordable};
 ghost use Rattle.op_record.specs.Writing.{Puts};
 
 use crate::lengths::entry_length;
@@ -332,7 +332,7 @@ fn put_grant_asked(
     finish: &Option<Finish>,
     word: &Word,
 )
-    requires { IsRecordableAct (acts.GrantAsked client.now items.now finish.now word.now) }
+    requires { IsWithinLimits (acts.GrantAsked client.now items.now finish.now word.now) }
     ensures { Puts (act_of (acts.GrantAsked client.now items.now finish.now word.now)) out.old out.new }
 {
     put_u8(out, 11);
@@ -401,7 +401,7 @@ fn put_quote_made(
 
 /// An act's kind and its fields.
 fn put_act(out: &mut Vec<u8>, act: &Act)
-    requires { IsRecordableAct act.now }
+    requires { IsWithinLimits act.now }
     ensures { Puts (act_of act.now) out.old out.new }
 {
     match act {
