@@ -4,14 +4,16 @@ use Rattle.std.proofs.lemmas.List.{append-nil}
 use Rattle.std.specs.declared.option.Option.{Option}
 use Rattle.std.specs.Io.KnownBytes.{Consumes, Appends, Keeps}
 use Rattle.op_model.specs.Printed.{printed}
-use Rattle.op_model.specs.Program.{code_of}
+use Rattle.op_session.specs.Program.{code_of}
 use Rattle.op_model.specs.Requests.{IsEnded}
-use Rattle.op_model.specs.Session.{Final, Session, begun, texts, replies, IsComplete, IsRefusal}
-use Rattle.op_model.specs.Turn.{Standing, Turn, Run, refusal_reply}
-use Rattle.op_model.specs.World.{World}
+use Rattle.op_model.specs.Round.{refusal_reply}
+use Rattle.op_session.specs.Session.{Final, Session, begun, texts, replies, IsComplete, IsRefusal}
+use Rattle.op_session.specs.Stood.{Stood, now}
+use Rattle.op_session.specs.Turn.{Standing, Turn, Run}
+use Rattle.op_session.specs.World.{World}
 use Rattle.op_model.specs.declared.act.Entry.{Entry}
-use Rattle.op_model.specs.declared.end.End.{End}
-use Rattle.op_model.specs.declared.end.End.TheVariants as ends
+use Rattle.op_session.specs.declared.end.End.{End}
+use Rattle.op_session.specs.declared.end.End.TheVariants as ends
 use Rattle.op_model.specs.declared.reply.Refusal.{Refusal}
 
 -- ---- steps of a stream that is told
@@ -92,15 +94,15 @@ module _ (before after : World) (first : List Entry) (final : Final) where
       let cause = s.ends.cause in
       let refusal : Refusal = cause.0 in
       let at : s.last.at ≡ length (texts s.turns) = omega (arith, r.at) in
-      let same : s.last.history ≡ final.stands = sym (ap (λ (f : Final). f.stands) cause.6) in (
+      let same : s.last.stood ≡ final.stands = sym (ap (λ (f : Final). f.stands) cause.6) in (
         r.rest,
         refusal,
         subst (λ (n : ℕ). IsRefusal refusal n (Some r.rest)) at (subst (λ (left : Option (List ℕ)). IsRefusal refusal s.last.at left) r.left cause.2),
         record {
           read = r.read;
           written = appends_told s.last.world.written after.written _ (old ++ replies s.turns) r.written cause.5
-              ∙ ap Some (append_assoc old (replies s.turns) (printed (refusal_reply s.last.history refusal))
-              ∙ ap (λ (h : List Entry). old ++ (replies s.turns ++ printed (refusal_reply h refusal))) same);
+              ∙ ap Some (append_assoc old (replies s.turns) (printed (refusal_reply (now s.last.stood) refusal))
+              ∙ ap (λ (h : Stood). old ++ (replies s.turns ++ printed (refusal_reply (now h) refusal))) same);
         },
       )
   complete ends.TurnLimit s bytes old l w =

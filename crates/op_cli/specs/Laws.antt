@@ -3,7 +3,8 @@ use Rattle.std.specs.Prelude.{◌≡◌, ◌⊎◌, ℕ, Bool, List, IsTrue}
 use Rattle.op_causes.specs.Causes.{Rose}
 use Rattle.op_desk.specs.Spelling.{SpellsSound}
 use Rattle.op_model.specs.declared.act.Entry.{Entry}
-use Rattle.op_model.specs.World.{World}
+use Rattle.op_session.specs.Stood.{now}
+use Rattle.op_session.specs.World.{World}
 use Rattle.op_cli.specs.Applies.{RunsOn}
 
 module _ {D : Type 0} (tells : Bool) (seen : D → List ℕ) (moment : D → ℕ) (since : D → ℕ → List ℕ → Type 0) (images : D → List ℕ → Type 0) (faults : D → ℕ) where
@@ -14,7 +15,7 @@ module _ {D : Type 0} (tells : Bool) (seen : D → List ℕ) (moment : D → ℕ
       (old new next last : D) (before after before' after' : World) (code code' : ℕ)
       → (first : RunsOn tells seen moment since images faults old new before after code)
       → (second : RunsOn tells seen moment since images faults next last before' after' code')
-      → IsTrue tells → images new (seen next) → ¬ Rose (faults old) (faults new) → second.first ≡ first.final.stands
+      → IsTrue tells → images new (seen next) → ¬ Rose (faults old) (faults new) → second.first ≡ now first.final.stands
 
   -- where its disk may have failed, perhaps with the round that was tried
   abbrev pub CallsGoOn : Type 0
@@ -22,7 +23,7 @@ module _ {D : Type 0} (tells : Bool) (seen : D → List ℕ) (moment : D → ℕ
       (old new next last : D) (before after before' after' : World) (code code' : ℕ)
       → (first : RunsOn tells seen moment since images faults old new before after code)
       → (second : RunsOn tells seen moment since images faults next last before' after' code')
-      → IsTrue tells → images new (seen next) → (second.first ≡ first.final.stands) ⊎ (second.first ≡ first.final.tried)
+      → IsTrue tells → images new (seen next) → (second.first ≡ now first.final.stands) ⊎ (second.first ≡ now first.final.tried)
 
   -- what a call leaves is a legal history of acts that are built, so the next call does not find it illegal
   abbrev pub CallsLeaveLegal : Type 0

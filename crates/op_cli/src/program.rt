@@ -2,7 +2,7 @@
 ghost use Rattle.std.specs.Prelude.{◌≡◌, ◌≢◌, ◌↔◌, ◌⊎◌, List, false, map, string_bytes, IsTrue};
 ghost use Rattle.op_causes.specs.Causes.{Rose};
 ghost use Rattle.op_desk.specs.Spelling.{SpellsSound};
-ghost use Rattle.op_model.specs.Program.{code_of, is_command};
+ghost use Rattle.op_session.specs.Program.{code_of, is_command};
 ghost use Rattle.op_model.specs.declared.act.Entry.{Entry};
 ghost use Rattle.op_cli.specs.Applies.{DoesNotOpen, RunsOn, code_of_fault};
 ghost use Rattle.op_cli.specs.Told.{world_of};
@@ -12,8 +12,8 @@ use crate::session::session;
 use crate::words::is_command;
 use op_desk::{Desk, DeskFault};
 use op_disk::Disk;
-use op_model::End;
 use op_ports::{Clock, Sink, Source, Verifier, Words};
+use op_session::End;
 use std::alloc::Global;
 
 /// The exit status where the words are no command.

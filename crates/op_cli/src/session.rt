@@ -1,5 +1,5 @@
 //! Sessions: requests from a source, replies to a sink, and what was answered in a journal.
-ghost use Rattle.std.specs.Prelude.{◌≡◌, ◌≢◌, ◌⊎◌, ◌<◌, ◌≤◌, ◌+◌, ◌^◌, ℕ, List, length, false, IsTrue, IsSome, IfSome, Err, OnOk, OnErr, IfErr};
+ghost use Rattle.std.specs.Prelude.{◌≡◌, ◌≢◌, ◌⊎◌, ◌<◌, ◌≤◌, ◌+◌, ◌^◌, ◌++◌, ℕ, List, length, false, IsTrue, IsSome, IfSome, Err, OnOk, OnErr, IfErr};
 ghost use Rattle.std.specs.Io.KnownBytes.{Appends};
 ghost use Rattle.std.specs.Str.{IsUtf8};
 ghost use Rattle.op_causes.specs.Causes.{Rose};
@@ -12,13 +12,14 @@ ghost use Rattle.op_model.specs.Legal.{is_proper};
 ghost use Rattle.op_model.specs.declared.act.Entry.{Entry};
 ghost use Rattle.op_model.specs.Meant.{meant};
 ghost use Rattle.op_model.specs.Printed.{is_built, is_built_refusal, printed};
-ghost use Rattle.op_model.specs.Session.{Final, Session, begun, settled};
-ghost use Rattle.op_model.specs.Turn.{refusal_reply};
+ghost use Rattle.op_session.specs.Session.{Final, Session, begun, settled};
+ghost use Rattle.op_session.specs.Stood.{now, opened_with, with_entries};
+ghost use Rattle.op_model.specs.Round.{refusal_reply};
 ghost use Rattle.op_model.specs.Verdicts.{verdict_of};
 ghost use Rattle.op_model.specs.declared.request.Task.TheVariants.{Ask};
-ghost use Rattle.op_model.specs.declared.end.End.TheVariants.{ReadFault, WriteFault, DiskFault, WordsFault};
+ghost use Rattle.op_session.specs.declared.end.End.TheVariants.{ReadFault, WriteFault, DiskFault, WordsFault};
 ghost use Rattle.op_ports.specs.Sink.{AppendsFront};
-ghost use Rattle.op_cli.specs.Kept.{history_at, IsReady, Leaves, Kept};
+ghost use Rattle.op_cli.specs.Kept.{history_at, FromEach, IsReady, Leaves, Kept};
 ghost use Rattle.op_cli.specs.Told.{world_of};
 ghost use Rattle.op_cli.specs.Turns.{here, Turns, Stops, IsFit, Handled, NotHandled, NotStood, Told, NotTold, NotWritten, Replies, ReplyFails, RefusalEnds, Unread};
 
@@ -27,9 +28,10 @@ use op_api::{ApiFault, disk_fault_reply, journal_full_reply, prepare};
 use op_desk::{Batch, Desk, RoundFault};
 use op_disk::Disk;
 use op_http::{HttpFault, RawRequest, Reader, write_all};
-use op_model::{End, Refusal, Reply, Request, Task, Verdict, Word};
+use op_model::{Refusal, Reply, Request, Task, Verdict, Word};
 use op_ports::{Clock, Sink, Source, Verifier, Words};
 use op_reply::print_reply;
+use op_session::End;
 use op_time::Moment;
 use std::alloc::Global;
 
@@ -116,7 +118,7 @@ fn begin_round(
     requires built { IsTrue (is_built_task task.now) }
     requires proper { IsTrue (is_proper (history_at desk.old) task.now) }
 
-    ensures begun { IfSome result (λ round. (round.batch.begun ≡ history_at desk.old) × (length round.batch.entries ≤ 1)) }
+    ensures begun { IfSome result (λ round. round.batch.begun ≡ history_at desk.old) }
     ensures answered { IfSome result (λ round. (reply : _) × Handles (history_at desk.old) (moment_of_turn (history_at desk.old) answer) 0 task.now word.now reply (history_in round.batch)
         × (round.text.items ≡ printed reply)) }
     ensures running { IfSome result (λ round. (desk.new.closed ≡ false) × (desk.new.tail ≡ desk.old.tail)) }
@@ -138,7 +140,6 @@ fn end_round<D: Disk, K: Sink>(
     sink: &mut K,
 ) -> Result<(), End>
     requires running { desk.old.closed ≡ false }
-    requires one { length round.batch.entries ≤ 1 }
     requires stands { IsTrue D.tells → (rounds : List (List Entry)) × (history_of rounds ≡ round.batch.begun) × Stands rounds desk.old.tail (D.seen disk.old) (D.images disk.old) }
     requires spelled { IsTrue D.tells → (c : List ℕ) → D.images disk.old c → Spells round.batch.begun c }
     requires sound { IsSound round.batch.begun }
@@ -146,9 +147,9 @@ fn end_round<D: Disk, K: Sink>(
     ensures whole { OnOk result (history_at desk.new ≡ history_in round.batch) }
     ensures ready { OnOk result (IsReady D.tells desk.new (D.seen disk.new) (D.images disk.new)) }
     ensures told { OnOk result (Appends (K.written sink.old) (K.written sink.new) round.text.items) }
-    ensures stands { OnOk result (Leaves D.tells D.seen D.moment D.since D.images D.faults round.batch.begun (settled (history_in round.batch)) disk.old disk.new) }
-    ensures err { IfErr result (λ end. (final : Final) × NotStood round.batch.begun (history_in round.batch) (K.written sink.old) (K.written sink.new) round.text.items end final
-        × Leaves D.tells D.seen D.moment D.since D.images D.faults round.batch.begun final disk.old disk.new) }
+    ensures stands { OnOk result (FromEach round.batch.begun (λ stood. Leaves D.tells D.seen D.moment D.since D.images D.faults stood (settled (with_entries stood round.batch.entries)) disk.old disk.new)) }
+    ensures err { IfErr result (λ end. FromEach round.batch.begun (λ stood. (final : Final) × NotStood stood round.batch.entries (K.written sink.old) (K.written sink.new) round.text.items end final
+        × Leaves D.tells D.seen D.moment D.since D.images D.faults stood final disk.old disk.new)) }
     ensures disk_cause { result ≡ Err DiskFault → Rose (D.faults disk.old) (D.faults disk.new) }
     ensures disk_kept { result ≢ Err DiskFault → result ≢ Err WriteFault → D.faults disk.new ≡ D.faults disk.old }
     ensures write_cause { result ≡ Err WriteFault → Rose (K.faults sink.old) (K.faults sink.new) }
@@ -179,11 +180,11 @@ fn run_round<D: Disk, K: Sink>(
     requires built { IsTrue (is_built_task task.now) }
     requires proper { IsTrue (is_proper (history_at desk.old) task.now) }
 
-    ensures ok { OnOk result (Handled (history_at desk.old) (history_at desk.new) (K.written sink.old) (K.written sink.new) answer word.now task.now) }
+    ensures ok { OnOk result (FromEach (history_at desk.old) (λ stood. (entries : List Entry) × (history_at desk.new ≡ now stood ++ entries) × Handled (now stood) entries (K.written sink.old) (K.written sink.new) answer word.now task.now
+        × Leaves D.tells D.seen D.moment D.since D.images D.faults stood (settled (with_entries stood entries)) disk.old disk.new)) }
     ensures ready { OnOk result (IsReady D.tells desk.new (D.seen disk.new) (D.images disk.new)) }
-    ensures stands { OnOk result (Leaves D.tells D.seen D.moment D.since D.images D.faults (history_at desk.old) (settled (history_at desk.new)) disk.old disk.new) }
-    ensures err { IfErr result (λ end. (final : Final) × NotHandled (history_at desk.old) (K.written sink.old) (K.written sink.new) answer word.now task.now end final
-        × Leaves D.tells D.seen D.moment D.since D.images D.faults (history_at desk.old) final disk.old disk.new) }
+    ensures err { IfErr result (λ end. FromEach (history_at desk.old) (λ stood. (final : Final) × NotHandled stood (K.written sink.old) (K.written sink.new) answer word.now task.now end final
+        × Leaves D.tells D.seen D.moment D.since D.images D.faults stood final disk.old disk.new)) }
     ensures disk_cause { result ≡ Err DiskFault → Rose (D.faults disk.old) (D.faults disk.new) }
     ensures disk_kept { result ≢ Err DiskFault → result ≢ Err WriteFault → D.faults disk.new ≡ D.faults disk.old }
     ensures write_cause { result ≡ Err WriteFault → Rose (K.faults sink.old) (K.faults sink.new) }
@@ -210,11 +211,11 @@ fn run_request<D: Disk, K: Sink>(
     requires sound { IsSound (history_at desk.old) }
     requires fit { IsFit request }
 
-    ensures ok { OnOk result (Handled (history_at desk.old) (history_at desk.new) (K.written sink.old) (K.written sink.new) answer word.now (Ask request verdict)) }
+    ensures ok { OnOk result (FromEach (history_at desk.old) (λ stood. (entries : List Entry) × (history_at desk.new ≡ now stood ++ entries) × Handled (now stood) entries (K.written sink.old) (K.written sink.new) answer word.now (Ask request verdict)
+        × Leaves D.tells D.seen D.moment D.since D.images D.faults stood (settled (with_entries stood entries)) disk.old disk.new)) }
     ensures ready { OnOk result (IsReady D.tells desk.new (D.seen disk.new) (D.images disk.new)) }
-    ensures stands { OnOk result (Leaves D.tells D.seen D.moment D.since D.images D.faults (history_at desk.old) (settled (history_at desk.new)) disk.old disk.new) }
-    ensures err { IfErr result (λ end. (final : Final) × NotHandled (history_at desk.old) (K.written sink.old) (K.written sink.new) answer word.now (Ask request verdict) end final
-        × Leaves D.tells D.seen D.moment D.since D.images D.faults (history_at desk.old) final disk.old disk.new) }
+    ensures err { IfErr result (λ end. FromEach (history_at desk.old) (λ stood. (final : Final) × NotHandled stood (K.written sink.old) (K.written sink.new) answer word.now (Ask request verdict) end final
+        × Leaves D.tells D.seen D.moment D.since D.images D.faults stood final disk.old disk.new)) }
     ensures disk_cause { result ≡ Err DiskFault → Rose (D.faults disk.old) (D.faults disk.new) }
     ensures disk_kept { result ≢ Err DiskFault → result ≢ Err WriteFault → D.faults disk.new ≡ D.faults disk.old }
     ensures write_cause { result ≡ Err WriteFault → Rose (K.faults sink.old) (K.faults sink.new) }
@@ -258,11 +259,11 @@ fn answer_one<D: Disk, K: Sink, V: Verifier>(
     requires ready { IsReady D.tells desk.old (D.seen disk.old) (D.images disk.old) }
     requires sound { IsSound (history_at desk.old) }
 
-    ensures ok { OnOk result (Told (history_at desk.old) (history_at desk.new) (K.written sink.old) (K.written sink.new) (verdict_of (V.accepts verifier.now) raw.now) answer word.now (meant raw.now)) }
+    ensures ok { OnOk result (FromEach (history_at desk.old) (λ stood. (entries : List Entry) × (history_at desk.new ≡ now stood ++ entries) × Told (now stood) entries (K.written sink.old) (K.written sink.new) (verdict_of (V.accepts verifier.now) raw.now) answer word.now (meant raw.now)
+        × Leaves D.tells D.seen D.moment D.since D.images D.faults stood (settled (with_entries stood entries)) disk.old disk.new)) }
     ensures ready { OnOk result (IsReady D.tells desk.new (D.seen disk.new) (D.images disk.new)) }
-    ensures stands { OnOk result (Leaves D.tells D.seen D.moment D.since D.images D.faults (history_at desk.old) (settled (history_at desk.new)) disk.old disk.new) }
-    ensures err { IfErr result (λ end. (final : Final) × NotTold (history_at desk.old) (K.written sink.old) (K.written sink.new) (verdict_of (V.accepts verifier.now) raw.now) answer word.now (meant raw.now) end final
-        × Leaves D.tells D.seen D.moment D.since D.images D.faults (history_at desk.old) final disk.old disk.new) }
+    ensures err { IfErr result (λ end. FromEach (history_at desk.old) (λ stood. (final : Final) × NotTold stood (K.written sink.old) (K.written sink.new) (verdict_of (V.accepts verifier.now) raw.now) answer word.now (meant raw.now) end final
+        × Leaves D.tells D.seen D.moment D.since D.images D.faults stood final disk.old disk.new)) }
     ensures disk_cause { result ≡ Err DiskFault → Rose (D.faults disk.old) (D.faults disk.new) }
     ensures disk_kept { result ≢ Err DiskFault → result ≢ Err WriteFault → D.faults disk.new ≡ D.faults disk.old }
     ensures write_cause { result ≡ Err WriteFault → Rose (K.faults sink.old) (K.faults sink.new) }
@@ -306,11 +307,11 @@ fn reply_to<D: Disk, S: Source, K: Sink, C: Clock, W: Words, V: Verifier>(
     requires ready { IsReady D.tells desk.old (D.seen outside.old.disk) (D.images outside.old.disk) }
     requires sound { IsSound (history_at desk.old) }
 
-    ensures ok { OnOk result (Replies (history_at desk.old) (history_at desk.new) (world_of S.left C.answers W.words K.written V.accepts outside.old) (world_of S.left C.answers W.words K.written V.accepts outside.new) raw.now) }
+    ensures ok { OnOk result (FromEach (history_at desk.old) (λ stood. (entries : List Entry) × (history_at desk.new ≡ now stood ++ entries) × Replies (now stood) entries (world_of S.left C.answers W.words K.written V.accepts outside.old) (world_of S.left C.answers W.words K.written V.accepts outside.new) raw.now
+        × Leaves D.tells D.seen D.moment D.since D.images D.faults stood (settled (with_entries stood entries)) outside.old.disk outside.new.disk)) }
     ensures ready { OnOk result (IsReady D.tells desk.new (D.seen outside.new.disk) (D.images outside.new.disk)) }
-    ensures stands { OnOk result (Leaves D.tells D.seen D.moment D.since D.images D.faults (history_at desk.old) (settled (history_at desk.new)) outside.old.disk outside.new.disk) }
-    ensures err { IfErr result (λ end. (final : Final) × ReplyFails (history_at desk.old) (world_of S.left C.answers W.words K.written V.accepts outside.old) (world_of S.left C.answers W.words K.written V.accepts outside.new) raw.now end final
-        × Leaves D.tells D.seen D.moment D.since D.images D.faults (history_at desk.old) final outside.old.disk outside.new.disk) }
+    ensures err { IfErr result (λ end. FromEach (history_at desk.old) (λ stood. (final : Final) × ReplyFails stood (world_of S.left C.answers W.words K.written V.accepts outside.old) (world_of S.left C.answers W.words K.written V.accepts outside.new) raw.now end final
+        × Leaves D.tells D.seen D.moment D.since D.images D.faults stood final outside.old.disk outside.new.disk)) }
     ensures source { outside.new.source ≡ outside.old.source }
     ensures verifier { outside.new.verifier ≡ outside.old.verifier }
     ensures no_read_fault { result ≢ Err ReadFault }
@@ -348,12 +349,12 @@ fn turn<D: Disk, S: Source, K: Sink, C: Clock, W: Words, V: Verifier>(
     requires ready { IsReady D.tells desk.old (D.seen outside.old.disk) (D.images outside.old.disk) }
     requires sound { IsSound (history_at desk.old) }
 
-    ensures ok { OnOk result (Turns (here (history_at desk.old) reader.old (world_of S.left C.answers W.words K.written V.accepts outside.old))
-        (here (history_at desk.new) reader.new (world_of S.left C.answers W.words K.written V.accepts outside.new))) }
+    ensures ok { OnOk result (FromEach (history_at desk.old) (λ stood. (entries : List Entry) × (history_at desk.new ≡ now stood ++ entries) × Turns (here stood reader.old (world_of S.left C.answers W.words K.written V.accepts outside.old))
+        (here (with_entries stood entries) reader.new (world_of S.left C.answers W.words K.written V.accepts outside.new))
+        × Leaves D.tells D.seen D.moment D.since D.images D.faults stood (settled (with_entries stood entries)) outside.old.disk outside.new.disk)) }
     ensures ready { OnOk result (IsReady D.tells desk.new (D.seen outside.new.disk) (D.images outside.new.disk)) }
-    ensures stands { OnOk result (Leaves D.tells D.seen D.moment D.since D.images D.faults (history_at desk.old) (settled (history_at desk.new)) outside.old.disk outside.new.disk) }
-    ensures err { IfErr result (λ end. (final : Final) × Stops (here (history_at desk.old) reader.old (world_of S.left C.answers W.words K.written V.accepts outside.old)) (world_of S.left C.answers W.words K.written V.accepts outside.new) end final
-        × Leaves D.tells D.seen D.moment D.since D.images D.faults (history_at desk.old) final outside.old.disk outside.new.disk) }
+    ensures err { IfErr result (λ end. FromEach (history_at desk.old) (λ stood. (final : Final) × Stops (here stood reader.old (world_of S.left C.answers W.words K.written V.accepts outside.old)) (world_of S.left C.answers W.words K.written V.accepts outside.new) end final
+        × Leaves D.tells D.seen D.moment D.since D.images D.faults stood final outside.old.disk outside.new.disk)) }
     ensures moved { OnOk result (reader.new.at ≤ reader.old.at + 81920) }
     ensures read_cause { result ≡ Err ReadFault → Rose (S.faults outside.old.source) (S.faults outside.new.source) }
     ensures read_kept { result ≢ Err ReadFault → S.faults outside.new.source ≡ S.faults outside.old.source }

@@ -17,7 +17,7 @@ use Rattle.op_model.specs.declared.reply.Reply.{Reply}
 use Rattle.op_model.specs.declared.reply.ReplyBody.TheVariants.{AssetAdded}
 use Rattle.op_model.specs.declared.reply.Refusal.TheVariants.{AlreadyExists, Memory}
 use Rattle.op_model.specs.declared.request.Request.TheVariants.{AddAsset}
-use Rattle.op_model.specs.Turn.{refusal_reply}
+use Rattle.op_model.specs.Round.{refusal_reply}
 use Rattle.op_model.specs.declared.request.Task.TheVariants.{Ask}
 use Rattle.op_model.specs.declared.request.Verdict.{Verdict}
 use Rattle.op_desk.specs.Answers.{adds, may_add, reply_with}

@@ -3,8 +3,7 @@ use Rattle.std.specs.Prelude.{ℕ, Bool, List, ◌++◌, IsTrue}
 use Rattle.std.specs.Option.{option_to_list}
 use Rattle.std.specs.declared.option.Option.{Option}
 use Rattle.op_model.specs.Legal.{IsNext, IsLegal}
-use Rattle.op_model.specs.Round.{Handled, IsHandledNext}
-use Rattle.op_model.specs.Turn.{NoTerms}
+use Rattle.op_model.specs.Round.{Terms, Handled, IsHandledNext}
 use Rattle.op_model.specs.declared.act.Entry.{Entry}
 use Rattle.op_model.specs.declared.reply.Reply.{Reply}
 use Rattle.op_model.specs.declared.request.Task.{Task}
@@ -24,6 +23,10 @@ pub record IsSound (history : List Entry) : Type 0 where
 pub record IsTaken (history : List Entry) (entry : Entry) : Type 0 where
   pub next : IsNext history entry
   pub built : IsTrue (is_built entry.act)
+
+-- no fee rule is there yet, and none is asked
+abbrev pub NoTerms : Terms
+NoTerms pair amount fee = ⊥
 
 -- a task as it was handled, at this place of its round; no fee is asked so far
 abbrev pub handled_at : (place : ℕ) → Task → (word : List ℕ) → (wanted : Bool) → Reply → Handled

@@ -6,7 +6,7 @@ ghost use Rattle.op_model.specs.History.{last_moment, origin_of};
 ghost use Rattle.op_model.specs.Legal.{is_proper, keeps_forms};
 ghost use Rattle.op_time.specs.declared.TheConstants.{LAST};
 ghost use Rattle.op_model.specs.Printed as printed;
-ghost use Rattle.op_model.specs.Turn.{refusal_reply};
+ghost use Rattle.op_model.specs.Round.{refusal_reply};
 ghost use Rattle.op_model.specs.declared.act.Act.TheVariants.{AssetAdded};
 ghost use Rattle.op_model.specs.declared.request.Request.TheVariants.{AddAsset};
 ghost use Rattle.op_model.specs.declared.request.Task.TheVariants.{Ask};

@@ -6,7 +6,7 @@ ghost use Rattle.std.specs.Vec.Iter.{into_iter_items};
 ghost use Rattle.std.specs.IoError.{error_kind};
 ghost use Rattle.std.specs.declared.io.ErrorKind.TheVariants.{InvalidData};
 ghost use Rattle.op_access.specs.Proof.{master_of};
-ghost use Rattle.op_model.specs.Program.{is_command};
+ghost use Rattle.op_session.specs.Program.{is_command};
 ghost use Rattle.wallet.specs.Edges.{path_of};
 ghost use Rattle.wallet.specs.Statuses.{line_of};
 ghost use Rattle.wallet.specs.Words.{journal_of};

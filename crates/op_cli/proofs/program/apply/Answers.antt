@@ -37,5 +37,5 @@ returns-in-Ok-clause-replies g c =
       unfit = kept.unfit;
       at_every_moment = λ told.
           let later = c.in-Ok.ensures.past_sync told (λ e. cc) in
-          every_moment g.D.Disk.seen g.D.Disk.moment g.D.Disk.since first ran.0 old opened new kept.begins kept.tried (found told) later (c.in-Ok.ensures.synced told later) (c.in-Ok.ensures.calls told) (kept.stood told);
+          every_moment g.D.Disk.seen g.D.Disk.moment g.D.Disk.since first ran.0 old opened new kept.begins kept.tried (found told) later (c.in-Ok.ensures.synced told later) (c.in-Ok.ensures.calls told) (kept.endures told);
     })

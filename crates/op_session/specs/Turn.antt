@@ -1,19 +1,19 @@
 -- A turn: one request, from its bytes to its reply.
-use Rattle.std.specs.Prelude.{◌≡◌, ◌+◌, ◌<◌, ℕ, Bool, if◌then◌else◌, List, [], ◌∷◌, length, Ok, Err}
+use Rattle.std.specs.Prelude.{◌≡◌, ◌+◌, ◌<◌, ℕ, Bool, if◌then◌else◌, List, [], ◌∷◌, ◌++◌, length, Ok, Err}
 use Rattle.std.specs.Io.KnownBytes.{Consumes, Appends}
 use Rattle.std.specs.declared.result.Result.{Result}
 use Rattle.op_ports.specs.Clock.{AsksKnown}
 use Rattle.op_ports.specs.Words.{DrawsKnown}
-use Rattle.op_model.specs.History.{moment_of_turn, origin_of}
+use Rattle.op_model.specs.History.{moment_of_turn}
 use Rattle.op_model.specs.Meant.{meant}
 use Rattle.op_model.specs.Printed.{printed}
-use Rattle.op_model.specs.Round.{Terms, Handled, IsPlainRound}
+use Rattle.op_model.specs.Round.{Terms, Handled, IsPlainRound, refusal_reply}
 use Rattle.op_model.specs.Requests.{Raw, IsWholeRequest}
+use Rattle.op_session.specs.Stood.{Stood, now, with_entries}
 use Rattle.op_model.specs.Verdicts.{verdict_of}
-use Rattle.op_model.specs.World.{World}
+use Rattle.op_session.specs.World.{World}
 use Rattle.op_model.specs.declared.act.Entry.{Entry}
 use Rattle.op_model.specs.declared.reply.Reply.{Reply}
-use Rattle.op_model.specs.declared.reply.ReplyBody.TheVariants.{Refused}
 use Rattle.op_model.specs.declared.reply.Refusal.{Refusal}
 use Rattle.op_model.specs.declared.reply.Refusal.TheVariants.{Memory}
 use Rattle.op_model.specs.declared.request.Request.{Request}
@@ -54,9 +54,6 @@ handled request turn = record {
   reply = turn.reply;
 }
 
-abbrev pub refusal_reply : List Entry → Refusal → Reply
-refusal_reply history refusal = record { origin = origin_of history; body = Refused refusal }
-
 -- A request that is understood is a round of one task. Any other has its refusal, and adds nothing.
 -- Want of memory may stand in place of either reply.
 abbrev pub IsReplied : (old : List Entry) → Turn → Result Request Refusal → (new : List Entry) → Type 0
@@ -68,7 +65,7 @@ IsReplied old turn (Err refusal) new =
 -- ---- where a session stands between two turns
 
 pub record Standing : Type 0 where
-  pub history : List Entry
+  pub stood : Stood
   -- how many requests were answered
   pub answered : ℕ
   -- where the next one begins in the stream
@@ -86,7 +83,10 @@ pub record Begins (old : Standing) (turn : Turn) (new : Standing) : Type 0 where
   pub asked : AsksKnown old.world.answers new.world.answers (turn.answer ∷ [])
   pub drawn : DrawsKnown old.world.words new.world.words (turn.word ∷ [])
   pub whole : length turn.word ≡ 16
-  pub replied : IsReplied old.history turn (meant turn.raw) new.history
+  -- its round: what it adds to the history, all of it or none
+  pub entries : List Entry
+  pub replied : IsReplied (now old.stood) turn (meant turn.raw) (now old.stood ++ entries)
+  pub stands : new.stood ≡ with_entries old.stood entries
   pub counted : new.answered ≡ old.answered + 1
   pub moved : new.at ≡ old.at + length turn.text
   pub verifier : new.world.accepts ≡ old.world.accepts
