@@ -13,7 +13,7 @@ use Rattle.op_record.specs.Recordable.{IsWithinLimits, IsOfVersion1, FitsAct, Is
 use Rattle.op_record.specs.Cuts.{HasRecord}
 use Rattle.op_record.specs.Rounds.{act_in, IsInRound}
 use Rattle.op_record.specs.Readers.{Reader, bind, done, byte_between, text_at, option_at}
-use Rattle.op_record.specs.Rows.{moment_at, origin_set_at, asset_added_at, address_added_at, moved_at, rate_set_at, incoming_made_at, quote_made_at, grant_asked_at, one_at, two_at, drawn_at, outgoing_made_at, outgoing_failed_at, attempted_at, provider_at, receiving_at, grant_at, sending_at, fields_at, act_at, entry_at, entry_of_round_at}
+use Rattle.op_record.specs.Rows.{moment_at, origin_set_at, asset_added_at, address_added_at, moved_at, rate_set_at, incoming_made_at, quote_made_at, grant_asked_at, one_at, two_at, drawn_at, outgoing_made_at, outgoing_failed_at, attempted_at, outgoing_direct_at, provider_at, receiving_at, grant_at, sending_at, fields_at, act_at, entry_at, entry_of_round_at}
 use Rattle.op_record.proofs.FieldLaws.{Field, Row, row-bind, row-done, row-last, row-if, row-fits, again-bind, again-done, field-of, field-fits, one, IsBetween, between-field, text-field, option-field}
 use Rattle.op_record.proofs.Parts.{u32-field, u64-field, moment-field, word-field, account-field, mode-field, reason-field, outcome-field}
 use Rattle.op_record.proofs.ItemLaws.{items-field, finish-field}
@@ -101,6 +101,12 @@ outgoing_failed : Kind 23 outgoing_failed_at
 unfolding outgoing_failed_at
 outgoing_failed = row-bind _ u64-field (λ payment p. row-bind _ u64-field (λ step s. row-bind _ reason-field (λ reason r. row-done _ _ refl (tt, (p, s)))))
 
+outgoing_direct : Kind 25 outgoing_direct_at
+unfolding outgoing_direct_at
+outgoing_direct = row-bind _ u64-field (λ grant a. row-bind _ u32-field (λ address b. row-bind _ u64-field (λ incoming c. row-bind _ u64-field (λ debit d. row-bind _ u64-field (λ source e.
+    row-bind _ u64-field (λ fee f. row-bind _ u64-field (λ receive g. row-bind _ u64-field (λ num h. row-bind _ u64-field (λ den i. row-bind _ (option-field (text-field 1024 (lit< tt))) (λ metadata m.
+    row-done _ _ refl (m, (a, b, c, d, e, f, g, h, i))))))))))))
+
 attempted : Kind 24 attempted_at
 unfolding attempted_at
 attempted = row-bind _ u64-field (λ event e. row-bind _ outcome-field (λ outcome o. row-done _ _ refl (o, e)))
@@ -137,15 +143,15 @@ granting kind low high =
     (λ f. pick kind 17 _ _ (drawn_of 17 acts.TokenRotated (λ n w. refl) (λ n w h k. (tt, (h, k))))
     (λ g. at_kind kind 18 _ (one_of 18 acts.TokenRevoked (λ n. refl) (λ n h. (tt, h))) (omega arith))))))))
 
-sending : (kind : ℕ) → 19 ≤ kind → kind ≤ 24 → Kind kind (sending_at kind)
+sending : (kind : ℕ) → 19 ≤ kind → kind ≤ 25 → Kind kind (sending_at kind)
 unfolding sending_at
 sending kind low high =
     pick kind 19 _ _ outgoing_made (λ a. pick kind 20 _ _ (two_of 20 acts.OutgoingFunded (λ m n. refl) (λ m n h k. (tt, (h, k))))
     (λ b. pick kind 21 _ _ (two_of 21 acts.OutgoingSent (λ m n. refl) (λ m n h k. (tt, (h, k))))
     (λ c. pick kind 22 _ _ (two_of 22 acts.OutgoingCompleted (λ m n. refl) (λ m n h k. (tt, (h, k))))
-    (λ d. pick kind 23 _ _ outgoing_failed (λ e. at_kind kind 24 _ attempted (omega arith))))))
+    (λ d. pick kind 23 _ _ outgoing_failed (λ e. pick kind 24 _ _ attempted (λ f. at_kind kind 25 _ outgoing_direct (omega arith)))))))
 
-fields : (kind : ℕ) → 1 ≤ kind → kind ≤ 24 → Kind kind (fields_at kind)
+fields : (kind : ℕ) → 1 ≤ kind → kind ≤ 25 → Kind kind (fields_at kind)
 unfolding fields_at
 fields kind low high =
     row-if _ (leb kind 6) (λ e. provider kind low (leb-true kind 6 e)) (λ e. let a : 6 < kind = leb-false kind 6 e in
@@ -172,7 +178,7 @@ unfolding drawn_at
 drawn_again made n word rest h k = again-bind u64-field _ n _ rest _ h (again-bind word-field _ word [] rest _ k (again-done _ rest))
 
 act_again : (highest : ℕ) (act : Act) (rest : List ℕ) → 1 ≤ highest → kind_of act ≤ highest → ActFits act → act_at highest (act_of act ++ rest) ≡ Ok (act, rest)
-unfolding fields_at provider_at receiving_at grant_at sending_at origin_set_at asset_added_at address_added_at moved_at rate_set_at incoming_made_at quote_made_at grant_asked_at outgoing_made_at outgoing_failed_at attempted_at
+unfolding fields_at provider_at receiving_at grant_at sending_at origin_set_at asset_added_at address_added_at moved_at rate_set_at incoming_made_at quote_made_at grant_asked_at outgoing_made_at outgoing_failed_at attempted_at outgoing_direct_at
 act_again highest (acts.OriginSet origin) rest some low h = kind_again highest 1 _ rest _ some (lit≤ tt) low (again-bind (text-field 200 (lit< tt)) _ origin [] rest _ h.1 (again-done _ rest))
 act_again highest (acts.AssetAdded code scale pieces) rest some low h = kind_again highest 2 _ rest _ some (lit≤ tt) low
     (again-bind (text-field 8 (lit< tt)) _ code (scale ∷ pieces ∷ []) rest _ (h.1.0) (again-bind byte-any _ scale (pieces ∷ []) rest _ (h.1.1) (again-bind byte-any _ pieces [] rest _ (h.1.2) (again-done _ rest))))
@@ -213,8 +219,12 @@ act_again highest (acts.OutgoingFailed payment step reason) rest some low h = ki
     (again-bind u64-field _ payment _ rest _ (h.1.0) (again-bind u64-field _ step (reason_number reason ∷ []) rest _ (h.1.1) (again-bind reason-field _ reason [] rest _ tt (again-done _ rest))))
 act_again highest (acts.Attempted event outcome) rest some low h = kind_again highest 24 _ rest _ some (lit≤ tt) low
     (again-bind u64-field _ event _ rest _ h.1 (again-bind outcome-field _ outcome [] rest _ h.0 (again-done _ rest)))
+act_again highest (acts.OutgoingDirect grant address incoming debit source fee receive num den metadata) rest some low h = kind_again highest 25 _ rest _ some (lit≤ tt) low
+    (again-bind u64-field _ grant _ rest _ (h.1.0) (again-bind u32-field _ address _ rest _ (h.1.1) (again-bind u64-field _ incoming _ rest _ (h.1.2) (again-bind u64-field _ debit _ rest _ (h.1.3)
+    (again-bind u64-field _ source _ rest _ (h.1.4) (again-bind u64-field _ fee _ rest _ (h.1.5) (again-bind u64-field _ receive _ rest _ (h.1.6) (again-bind u64-field _ num _ rest _ (h.1.7)
+    (again-bind u64-field _ den _ rest _ (h.1.8) (again-bind (option-field (text-field 1024 (lit< tt))) _ metadata [] rest _ h.0 (again-done _ rest)))))))))))
 
-pub act-field : (highest : ℕ) → 1 ≤ highest → highest ≤ 24 → Field (act_at highest) act_of (IsActOf highest)
+pub act-field : (highest : ℕ) → 1 ≤ highest → highest ≤ 25 → Field (act_at highest) act_of (IsActOf highest)
 unfolding act_at
 act-field highest some known = field-of (act_at highest) act_of (IsActOf highest)
     (row-bind _ (between-field 1 highest some) (λ kind k. row-fits _ (fields kind k.0 (omega (arith, k.1))) (λ t act spelled fits.
@@ -225,15 +235,16 @@ act-field highest some known = field-of (act_at highest) act_of (IsActOf highest
 
 -- the kinds of version 1
 kind_of_version_1 : (act : Act) → IsOfVersion1 act → kind_of act ≤ 24
-kind_of_version_1 (acts.Attempted event outcome) of = lit≤ tt
+kind_of_version_1 (acts.OutgoingDirect grant address incoming debit source fee receive num den metadata) of = absurd of
 kind_of_version_1 _ of = lit≤ tt
 
 is_of_version_1 : (act : Act) → kind_of act ≤ 24 → IsOfVersion1 act
+is_of_version_1 (acts.OutgoingDirect grant address incoming debit source fee receive num den metadata) le = absurd (omega (arith, le))
 is_of_version_1 _ le = tt
 
 -- and those of version 2
-kind_of_version_2 : (act : Act) → kind_of act ≤ 24
-kind_of_version_2 (acts.Attempted event outcome) = lit≤ tt
+kind_of_version_2 : (act : Act) → kind_of act ≤ 25
+kind_of_version_2 (acts.OutgoingDirect grant address incoming debit source fee receive num den metadata) = lit≤ tt
 kind_of_version_2 _ = lit≤ tt
 
 entry_again : (entry : Entry) (rest : List ℕ) → HasRecord entry → entry_at (record_of entry ++ rest) ≡ Ok (entry, rest)
@@ -253,12 +264,12 @@ entry-field = field-of entry_at record_of HasRecord
 entry_of_round_again : (at : ℕ) (entry : Entry) (rest : List ℕ) → IsInRound at entry → entry_of_round_at at (act_in entry ++ rest) ≡ Ok (entry, rest)
 unfolding entry_of_round_at done
 entry_of_round_again at entry rest h =
-    ap (λ (t : List ℕ). bind (act_at 24) (λ act. done (record { at = at; act = act })) (t ++ rest)) (sym (append-nil (act_in entry)))
-    ∙ again-bind (act-field 24 (lit≤ tt) (lit≤ tt)) (λ act. done (record { at = at; act = act })) entry.act [] rest _ ((h.1, h.2.1), kind_of_version_2 entry.act)
+    ap (λ (t : List ℕ). bind (act_at 25) (λ act. done (record { at = at; act = act })) (t ++ rest)) (sym (append-nil (act_in entry)))
+    ∙ again-bind (act-field 25 (lit≤ tt) (lit≤ tt)) (λ act. done (record { at = at; act = act })) entry.act [] rest _ ((h.1, h.2.1), kind_of_version_2 entry.act)
     (ap (λ (n : ℕ). Ok (record { at = n; act = entry.act }, rest)) (sym h.0))
 
 pub entry_of_round-field : (at : ℕ) → at ≤ LAST → Field (entry_of_round_at at) act_in (IsInRound at)
 unfolding entry_of_round_at
 entry_of_round-field at moment = field-of (entry_of_round_at at) act_in (IsInRound at)
-    (row-bind (λ t. t) (act-field 24 (lit≤ tt) (lit≤ tt)) (λ act f. row-done (λ t. act_of act ++ t) (record { at = at; act = act }) (append-nil (act_of act)) (refl, f.0.0, (moment, f.0.1))))
+    (row-bind (λ t. t) (act-field 25 (lit≤ tt) (lit≤ tt)) (λ act f. row-done (λ t. act_of act ++ t) (record { at = at; act = act }) (append-nil (act_of act)) (refl, f.0.0, (moment, f.0.1))))
     (entry_of_round_again at)

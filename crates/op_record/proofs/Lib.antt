@@ -9,6 +9,7 @@ pub mod ItemSteps
 pub mod CutLaws
 pub mod Many
 pub mod RoundSteps
+pub mod RoundLaws
 pub mod Entries
 pub mod Putting
 pub mod LengthLaws

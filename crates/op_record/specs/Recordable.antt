@@ -49,6 +49,7 @@ IsWithinLimits (acts.Withdrawn transfer account value) = IsShort 64 transfer × 
 IsWithinLimits (acts.IncomingMade grant address amount expiry metadata) = IfSome metadata (IsShort 1024)
 IsWithinLimits (acts.GrantAsked client items finish word) = IsShort 256 client × AreItems items × IfSome finish IsFinish
 IsWithinLimits (acts.OutgoingMade grant quote metadata) = IfSome metadata (IsShort 1024)
+IsWithinLimits (acts.OutgoingDirect grant address incoming debit source fee receive num den metadata) = IfSome metadata (IsShort 1024)
 IsWithinLimits (acts.Attempted event outcome) = is_outcome outcome ≡ true
 IsWithinLimits _ = Unit {0}
 
@@ -57,8 +58,9 @@ IsWithinLimits _ = Unit {0}
 abbrev pub IsWritable : Entry → Type 0
 IsWritable entry = IsWithinLimits entry.act
 
--- an act that version 1 has
+-- an act that version 1 has: all but a payment without a quote
 abbrev pub IsOfVersion1 : Act → Type 0
+IsOfVersion1 (acts.OutgoingDirect grant address incoming debit source fee receive num den metadata) = ⊥
 IsOfVersion1 _ = Unit {0}
 
 -- an entry that has a record, which is of version 1
@@ -129,6 +131,8 @@ FitsAct (acts.OutgoingFunded payment step) = IsU64 payment × IsU64 step
 FitsAct (acts.OutgoingSent payment step) = IsU64 payment × IsU64 step
 FitsAct (acts.OutgoingCompleted payment step) = IsU64 payment × IsU64 step
 FitsAct (acts.OutgoingFailed payment step reason) = IsU64 payment × IsU64 step
+FitsAct (acts.OutgoingDirect grant address incoming debit source fee receive num den metadata) =
+    IsU64 grant × IsU32 address × IsU64 incoming × IsU64 debit × IsU64 source × IsU64 fee × IsU64 receive × IsU64 num × IsU64 den
 FitsAct (acts.Attempted event outcome) = IsU64 event
 
 -- each number fits its type, a moment is at most the last one, a word has sixteen bytes, an origin at most 200 and a code at most eight

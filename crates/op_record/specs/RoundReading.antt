@@ -5,7 +5,7 @@ use Rattle.op_model.specs.declared.act.Entry.{Entry}
 use Rattle.op_record.specs.declared.fault.Fault.{Fault}
 use Rattle.op_record.specs.Records.{record_of}
 use Rattle.op_record.specs.Cuts.{HasRecord}
-use Rattle.op_record.specs.Rounds.{act_in, IsInRound}
+use Rattle.op_record.specs.Rounds.{act_in, IsInRound, IsRound}
 use Rattle.op_record.specs.Readers.{Reader}
 use Rattle.op_record.specs.Rows.{entry_at, entry_of_round_at}
 
@@ -28,6 +28,12 @@ pub record AreRead (said : Option ℕ) (bytes : List ℕ) (old new : List Entry)
   pub some : 0 < length round
   pub have : AllByRecursion (FitsWith said) round
   pub is : bytes ≡ flat_map (text_with said) round
+  pub grown : new ≡ old ++ round
+
+-- a payload is a round, whose entries were put behind the old ones
+pub record IsReadRound (payload : List ℕ) (old new : List Entry) : Type 0 where
+  pub round : List Entry
+  pub is : IsRound payload round
   pub grown : new ≡ old ++ round
 
 -- the bytes begin with these entries, and behind them none is read; where one was read, bytes are left

@@ -204,11 +204,12 @@ fn act_length(act: &Act) -> usize
         Act::OutgoingCompleted { .. } => 17,
         Act::OutgoingFailed { .. } => 18,
         Act::Attempted { .. } => 11,
+        Act::OutgoingDirect { metadata, .. } => 69 + some_text_length(metadata),
     }
 }
 
 /// How many bytes the record of an entry is. The entry's texts are within their limits, and its items and its outcome are
-/// those of a record.
+/// those of a record. A payment without a quote, which version 1 does not have, counts as if it had.
 #[tactic(auto, unfolding(crate::specs::Records::record_of), using(crate::proofs::LengthLaws::lengths))]
 pub fn entry_length(entry: &Entry) -> usize
     requires { IsWritable entry.now }

@@ -2,7 +2,7 @@
 //!
 //! Room for the whole record is made first, so that none of these calls is refused and nothing is half written.
 
-ghost use Rattle.std.specs.Prelude.{◌≡◌, ◌≤◌, ◌+◌, ◌++◌, ◌∷◌, [], List, if◌then◌else◌, length, IsOk, OnOk, OnErr, IfSome, vec_len, vec_capacity};
+ghost use Rattle.std.specs.Prelude.{◌≡◌, ◌≤◌, ◌+◌, ◌++◌, ◌∷◌, [], List, if◌then◌else◌, length, map, IsOk, OnOk, OnErr, IfSome, vec_len, vec_capacity};
 ghost use Rattle.std.specs.List.{concat, flat_map};
 ghost use Rattle.op_model.specs.declared.act.Act.TheVariants as acts;
 ghost use Rattle.op_model.specs.declared.grant.Item.{Item};
@@ -399,6 +399,24 @@ fn put_quote_made(
     put_numbers(out, numbers);
 }
 
+/// A payment without a quote, with its seven numbers in the order of its row.
+fn put_outgoing_direct(
+    out: &mut Vec<u8>,
+    grant: u64,
+    address: u32,
+    numbers: &[u64],
+    metadata: &Option<Text>,
+)
+    requires { IfSome metadata.now (IsShort 1024) }
+    ensures { Puts (concat ((25 ∷ []) ∷ number 8 grant ∷ number 4 address ∷ (map (number 8) numbers.now ++ optional text metadata.now ∷ []))) out.old out.new }
+{
+    put_u8(out, 25);
+    put_u64(out, grant);
+    put_u32(out, address);
+    put_numbers(out, numbers);
+    put_some_text(out, metadata);
+}
+
 /// An act's kind and its fields.
 fn put_act(out: &mut Vec<u8>, act: &Act)
     requires { IsWithinLimits act.now }
@@ -480,6 +498,21 @@ fn put_act(out: &mut Vec<u8>, act: &Act)
             reason,
         } => put_outgoing_failed(out, *payment, *step, *reason),
         Act::Attempted { event, outcome } => put_attempted(out, *event, *outcome),
+        Act::OutgoingDirect {
+            grant,
+            address,
+            incoming,
+            debit,
+            source,
+            fee,
+            receive,
+            num,
+            den,
+            metadata,
+        } => {
+            let numbers = [*incoming, *debit, *source, *fee, *receive, *num, *den];
+            put_outgoing_direct(out, *grant, *address, &numbers, metadata)
+        }
     }
 }
 
