@@ -119,7 +119,7 @@ pub record IsStop {A : Type 0} (spell : A → List ℕ) (Fits : A → Type 0) (b
   pub before : Begins spell Fits (take at bytes)
   pub never : (ys : List A) (more : List ℕ) → AllByRecursion Fits ys → take (at + 1) bytes ++ more ≡ flat_map spell ys → ⊥
 
-take_more : (front : List ℕ) (b : ℕ) (rest : List ℕ) → take (length front + 1) (front ++ b ∷ rest) ≡ front ++ b ∷ []
+pub take_more : (front : List ℕ) (b : ℕ) (rest : List ℕ) → take (length front + 1) (front ++ b ∷ rest) ≡ front ++ b ∷ []
 take_more front b rest =
     ap (λ (t : List ℕ). take (length front + 1) t) (sym (append_assoc front (b ∷ []) rest))
     ∙ take_at (front ++ b ∷ []) rest (length front + 1) (length-append front (b ∷ []))

@@ -1,7 +1,9 @@
 -- Rounds: what the payload of a frame says.
-use Rattle.std.specs.Prelude.{◌≡◌, ◌⊎◌, ℕ, ◌+◌, ◌<◌, List, [], ◌∷◌, ◌++◌, length, take}
+use Rattle.std.specs.Prelude.{◌≡◌, ◌⊎◌, ℕ, ◌+◌, ◌<◌, List, [], ◌∷◌, ◌++◌, length, take, Result, Ok, Err}
 use Rattle.std.specs.List.{flat_map, AllByRecursion}
 use Rattle.op_model.specs.declared.act.Entry.{Entry}
+use Rattle.op_record.specs.declared.RecordFault.{RecordFault}
+use Rattle.op_record.specs.declared.RecordFault.TheVariants.{Short, Bad, Memory}
 use Rattle.op_record.specs.Fields.{number}
 use Rattle.op_record.specs.Records.{act_of, record_of}
 use Rattle.op_record.specs.Recordable.{IsWritable, FitsTypes}
@@ -39,6 +41,13 @@ pub record IsRoundOfOneMoment (payload : List ℕ) (entries : List Entry) : Type
 -- the payload of a round, of either version, and its entries
 abbrev pub IsRound : List ℕ → List Entry → Type 0
 IsRound payload entries = IsRoundOfRecords payload entries ⊎ IsRoundOfOneMoment payload entries
+
+-- this round was put behind the old entries, unless memory ran out
+abbrev pub IsReadOrMemory : List Entry → List Entry → List Entry → Result (Unit {0}) RecordFault → Type 0
+IsReadOrMemory round old new (Ok x) = new ≡ old ++ round
+IsReadOrMemory round old new (Err Short) = ⊥
+IsReadOrMemory round old new (Err (Bad at)) = ⊥
+IsReadOrMemory round old new (Err Memory) = Unit {0}
 
 -- ---- bytes that are no round
 

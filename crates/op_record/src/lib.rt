@@ -15,6 +15,7 @@ mod writing;
 pub use laws::{no_record_begins_another, records_are_cut_one_way, records_read_back};
 pub use lengths::entry_length;
 pub use reading::read_entry;
+pub use rounds::read_round;
 pub use writing::write_entry;
 
 /// Why bytes are no record.
