@@ -1,7 +1,7 @@
 -- Texts that are put one after another.
 use Rattle.std.proofs.Common.{◌≡◌, ℕ, zero, suc, ◌+◌, ◌≤◌, ◌<◌, List, [], ◌∷◌, ◌++◌, length, map, take, get_or, Vec, Global, refl, sym, ap, subst, ◌∙◌, append_assoc, arith}
 use Rattle.std.specs.Prelude.{vec_capacity}
-use Rattle.std.specs.List.{flat_map, concat}
+use Rattle.std.specs.List.{flat_map, concat, AllByRecursion}
 use Rattle.std.proofs.lemmas.List.{append-nil, length-append}
 use Rattle.std.proofs.Math.Seq.{take-suc}
 use Rattle.std.proofs.lemmas.Grind.{flat_map-append}
@@ -55,6 +55,12 @@ one_more f xs i d x y z lt p q =
 
 pub all_put : {X : Type 0} (f : X → List ℕ) (xs : List X) (i : ℕ) (x y : Vec ℕ Global) → length xs ≤ i → Puts (flat_map f (take i xs)) x y → Puts (flat_map f xs) x y
 all_put f xs i x y le p = subst (λ t. Puts (flat_map f t) x y) (take_past xs i le) p
+
+-- each of a list, by what holds of all
+pub one_of_all : {X : Type 0} (P : X → Type 0) (xs : List X) (i : ℕ) (d : X) → AllByRecursion P xs → i < length xs → P (get_or xs i d)
+one_of_all P [] i d h lt = absurd (omega (arith, lt))
+one_of_all P (x ∷ xs) zero d h lt = h.0
+one_of_all P (x ∷ xs) (suc i) d h lt = one_of_all P xs i d h.1 (omega (arith, lt))
 
 -- each item of a list is one
 pub item_of_all : (low : ℕ) (xs : List Item) (i : ℕ) (d : Item) → AreAbove low xs → i < length xs → IsItem (get_or xs i d)

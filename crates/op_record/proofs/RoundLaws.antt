@@ -19,6 +19,7 @@ use Rattle.op_record.specs.Records.{act_of, record_of}
 use Rattle.op_record.specs.Readers.{Fails, bind, byte, digits_at}
 use Rattle.op_record.specs.Rows.{moment_at, entry_at, entry_of_round_at}
 use Rattle.op_record.specs.Cuts.{HasRecord, IsUnlessMemory}
+use Rattle.op_record.specs.Laws.{NoActBeginsAnother, BothVersionsSayIt}
 use Rattle.op_record.specs.Rounds.{records, round_of, act_in, IsInRound, IsRoundOfRecords, IsRoundOfOneMoment, IsRound, BeginsRound, IsCutRound, IsBadRoundAt, IsReadOrMemory}
 use Rattle.op_record.specs.RoundReading.{entry_with, text_with, FitsWith, AreRead, StopsAt, IsReadRound, IsLeft, IsOther, Says}
 use Rattle.op_record.proofs.Parts.{moment-field}
@@ -349,3 +350,20 @@ moment_told_short payload rest error two h e = moment_short payload rest two (fa
 
 pub moment_told_bad : (payload rest : List ℕ) (error : ReadError) (left : ℕ) → payload ≡ 2 ∷ rest → Fails error (moment_at rest) → told error ≡ told (errors.Fault (Bad left)) → IsLeft payload left
 moment_told_bad payload rest error left two h e = moment_bad payload rest left two (fault_of error (Bad left) rest (error_is error (errors.Fault (Bad left)) e) h)
+
+-- ---- laws
+
+pub no_act_begins_another : NoActBeginsAnother
+no_act_begins_another at a b more p q e = one_way (entry_of_round-field at (subst (λ (n : ℕ). n ≤ LAST) p.0 p.2.0)) a b more [] p q (e ∙ sym (append-nil (act_in b)))
+
+have_records : (at : ℕ) (entries : List Entry) → AllByRecursion (λ entry. (entry.at ≡ at) × HasRecord entry) entries → AllByRecursion HasRecord entries
+have_records at [] have = tt
+have_records at (e ∷ entries) have = (have.0.1, have_records at entries have.1)
+
+are_in_round : (at : ℕ) (entries : List Entry) → AllByRecursion (λ entry. (entry.at ≡ at) × HasRecord entry) entries → AllByRecursion (IsInRound at) entries
+are_in_round at [] have = tt
+are_in_round at (e ∷ entries) have = ((have.0.0, have.0.1.0.0, have.0.1.1), are_in_round at entries have.1)
+
+pub both_versions_say_it : BothVersionsSayIt
+both_versions_say_it at entries some have =
+    (inl (record { some = some; have = have_records at entries have; is = refl }), inr (record { some = some; at = at; have = are_in_round at entries have; is = refl }))

@@ -21,6 +21,15 @@ act_in entry = act_of entry.act
 abbrev pub round_of : ℕ → List Entry → List ℕ
 round_of at entries = 2 ∷ (number 8 at ++ flat_map act_in entries)
 
+-- the moment of the first entry
+abbrev pub moment_of : List Entry → ℕ
+moment_of [] = 0
+moment_of (entry ∷ entries) = entry.at
+
+-- the entries have one moment
+abbrev pub HaveOneMoment : List Entry → Type 0
+HaveOneMoment entries = AllByRecursion (λ entry. entry.at ≡ moment_of entries) entries
+
 -- an entry of a round of version 2 at this moment
 abbrev pub IsInRound : ℕ → Entry → Type 0
 IsInRound at entry = (entry.at ≡ at) × IsWritable entry × FitsTypes entry

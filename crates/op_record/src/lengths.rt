@@ -158,7 +158,7 @@ fn some_finish_length(value: &Option<Finish>) -> usize
 
 /// How many bytes an act's kind and its fields are.
 #[tactic(auto, using(crate::proofs::LengthLaws::lengths))]
-fn act_length(act: &Act) -> usize
+pub(crate) fn act_length(act: &Act) -> usize
     requires { IsWithinLimits act.now }
     ensures is { result ≡ length (act_of act.now) }
     ensures low { result ≤ 10000 }

@@ -27,7 +27,7 @@ fn put(out: &mut Vec<u8>, bytes: &[u8])
     let _ = out.extend_from_slice(bytes);
 }
 
-fn put_u8(out: &mut Vec<u8>, n: u8)
+pub(crate) fn put_u8(out: &mut Vec<u8>, n: u8)
     ensures { Puts (n ∷ []) out.old out.new }
 {
     put(out, &[n]);
@@ -48,7 +48,7 @@ fn put_u32(out: &mut Vec<u8>, n: u32)
 }
 
 #[tactic(auto, unfolding(crate::specs::Fields::number))]
-fn put_u64(out: &mut Vec<u8>, n: u64)
+pub(crate) fn put_u64(out: &mut Vec<u8>, n: u64)
     ensures { Puts (number 8 n) out.old out.new }
 {
     put(out, &n.to_be_bytes());
@@ -418,7 +418,7 @@ fn put_outgoing_direct(
 }
 
 /// An act's kind and its fields.
-fn put_act(out: &mut Vec<u8>, act: &Act)
+pub(crate) fn put_act(out: &mut Vec<u8>, act: &Act)
     requires { IsWithinLimits act.now }
     ensures { Puts (act_of act.now) out.old out.new }
 {
@@ -526,12 +526,14 @@ fn put_entry(out: &mut Vec<u8>, entry: &Entry)
 }
 
 /// Puts the record of an entry behind what is there. The entry's texts are within their limits, and its items and its
-/// outcome are those of a record. An `Err` changes nothing, and comes only where `out` lacks room of `entry_length`.
+/// outcome are those of a record. The entry is no payment without a quote, which version 1 does not have. An `Err` changes
+/// nothing, and comes only where `out` lacks room of `entry_length`. No room is given back.
 pub fn write_entry(entry: &Entry, out: &mut Vec<u8>) -> Result<(), AllocError>
     requires { IsRecordable entry.now }
     ensures ok { OnOk result (out.new.items ≡ out.old.items ++ record_of entry.now) }
     ensures err { OnErr result (out.new.items ≡ out.old.items) }
     ensures room { vec_len out.old + length (record_of entry.now) ≤ vec_capacity out.old → IsOk result }
+    ensures kept { vec_capacity out.old ≤ vec_capacity out.new }
 {
     out.reserve(entry_length(entry))?;
     put_entry(out, entry);
