@@ -9,7 +9,7 @@ use Rattle.op_http.specs.declared.reader.HttpFault.TheVariants as http
 use Rattle.op_ports.specs.Clock.{AsksKnown}
 use Rattle.op_ports.specs.Sink.{AppendsFront}
 use Rattle.op_ports.specs.Words.{DrawsKnown}
-use Rattle.op_model.specs.Meant.{meant}
+use Rattle.op_model.specs.Meant.{meant_so_far}
 use Rattle.op_model.specs.Printed.{printed}
 use Rattle.op_model.specs.Requests.{Raw, BeginsWithNoRequest}
 use Rattle.op_model.specs.Round.{Terms, refusal_reply}
@@ -56,7 +56,7 @@ stays_read h h' left left' same = consumes_trans (stream h left) (stream h' left
 -- ---- a request was taken
 
 module _ (allows : Terms) (old : Stood) (h h' : Held) (w w' : World) (raw : Raw) (takes : Takes h h' w.left w'.left raw) (same : w'.accepts ≡ w.accepts) (n : ℕ) (below : n < turn_limit) where
-  begins : (entries : List Entry) (answer : ℕ) (word : List ℕ) (reply : Reply) → AsksKnown w.answers w'.answers (answer ∷ []) → DrawsKnown w.words w'.words (word ∷ []) → length word ≡ 16 → (answers : Answers allows (now old) (verdict_of w.accepts raw) answer word (meant raw) reply entries)
+  begins : (entries : List Entry) (answer : ℕ) (word : List ℕ) (reply : Reply) → AsksKnown w.answers w'.answers (answer ∷ []) → DrawsKnown w.words w'.words (word ∷ []) → length word ≡ 16 → (answers : Answers allows (now old) (verdict_of w.accepts raw) answer word (meant_so_far raw) reply entries)
       → Begins allows (here old h w n) (turn_of takes.text raw (verdict_of w.accepts raw) answer word answers.0 answers.1 reply) (here (with_entries old entries) h' w' (n + 1))
   begins entries answer word reply asks draws sized answers = record {
     limit = below;
@@ -77,7 +77,7 @@ module _ (allows : Terms) (old : Stood) (h h' : Held) (w w' : World) (raw : Raw)
   read_since : Consumes (stream h w.left) w'.left (takes.text ++ h'.bytes)
   read_since = consumes_trans (stream h w.left) (stream h' w'.left) w'.left takes.text h'.bytes takes.taken (consumes_held h' w'.left)
 
-  answers_one : (entries : List Entry) (answer : ℕ) (word : List ℕ) (reply : Reply) → AsksKnown w.answers w'.answers (answer ∷ []) → DrawsKnown w.words w'.words (word ∷ []) → length word ≡ 16 → (answers : Answers allows (now old) (verdict_of w.accepts raw) answer word (meant raw) reply entries)
+  answers_one : (entries : List Entry) (answer : ℕ) (word : List ℕ) (reply : Reply) → AsksKnown w.answers w'.answers (answer ∷ []) → DrawsKnown w.words w'.words (word ∷ []) → length word ≡ 16 → (answers : Answers allows (now old) (verdict_of w.accepts raw) answer word (meant_so_far raw) reply entries)
       → AnswersOne allows (here old h w n) (turn_of takes.text raw (verdict_of w.accepts raw) answer word answers.0 answers.1 reply) (here (with_entries old entries) h' w' (n + 1)) (record { held = takes.text ++ h'.bytes; asked = answer ∷ []; drawn = word ∷ [] })
   answers_one entries answer word reply asks draws sized answers = record {
     begun = begins entries answer word reply asks draws sized answers;
@@ -92,7 +92,7 @@ module _ (allows : Terms) (old : Stood) (h h' : Held) (w w' : World) (raw : Raw)
       (turn_of takes.text raw (verdict_of w.accepts raw) answer word answers.0 answers.1 reply, record { begun = begins entries answer word reply asks draws sized answers; written = written })
 
   -- its act did not come to stand
-  loses : (entries : List Entry) (answer : ℕ) (word : List ℕ) (reply : Reply) → AsksKnown w.answers w'.answers (answer ∷ []) → DrawsKnown w.words w'.words (word ∷ []) → length word ≡ 16 → (answers : Answers allows (now old) (verdict_of w.accepts raw) answer word (meant raw) reply entries) → entries ≢ []
+  loses : (entries : List Entry) (answer : ℕ) (word : List ℕ) (reply : Reply) → AsksKnown w.answers w'.answers (answer ∷ []) → DrawsKnown w.words w'.words (word ∷ []) → length word ≡ 16 → (answers : Answers allows (now old) (verdict_of w.accepts raw) answer word (meant_so_far raw) reply entries) → entries ≢ []
       → LosesRound allows (here old h w n) (here (with_entries old entries) h' w' (n + 1)) (record { held = takes.text ++ h'.bytes; asked = answer ∷ []; drawn = word ∷ [] })
   unfolding answers_one begins
   loses entries answer word reply asks draws sized answers some = record {

@@ -14,7 +14,7 @@ use Rattle.op_ports.specs.Sink.{AppendsFront}
 use Rattle.op_ports.specs.Words.{DrawsKnown}
 use Rattle.op_model.specs.History.{moment_of_turn}
 use Rattle.op_model.specs.Legal.{keeps_forms}
-use Rattle.op_model.specs.Meant.{meant}
+use Rattle.op_model.specs.Meant.{meant_so_far}
 use Rattle.op_model.specs.Printed.{printed}
 use Rattle.op_model.specs.Requests.{Raw}
 use Rattle.op_model.specs.Round.{Terms, refusal_reply}
@@ -124,13 +124,13 @@ NotTold allows old written written' verdict answer word asked _ final = ⊥
 
 abbrev pub Replies : Terms → (old entries : List Entry) (w w' : World) → Raw → Type 0
 Replies allows old entries w w' raw = (answer : ℕ) × (word : List ℕ) × AsksKnown w.answers w'.answers (answer ∷ []) × DrawsKnown w.words w'.words (word ∷ []) × (length word ≡ 16)
-    × Told allows old entries w.written w'.written (verdict_of w.accepts raw) answer word (meant raw)
+    × Told allows old entries w.written w'.written (verdict_of w.accepts raw) answer word (meant_so_far raw)
 
 abbrev pub ReplyFails : Terms → (old : Stood) (w w' : World) → Raw → End → Final → Type 0
 ReplyFails allows old w w' raw ends.WordsFault final = (answer : ℕ) × AsksKnown w.answers w'.answers (answer ∷ []) × DrawsKnown w.words w'.words []
     × Keeps w.written w'.written × (final ≡ settled old)
 ReplyFails allows old w w' raw end final = (answer : ℕ) × (word : List ℕ) × AsksKnown w.answers w'.answers (answer ∷ []) × DrawsKnown w.words w'.words (word ∷ []) × (length word ≡ 16)
-    × NotTold allows old w.written w'.written (verdict_of w.accepts raw) answer word (meant raw) end final
+    × NotTold allows old w.written w'.written (verdict_of w.accepts raw) answer word (meant_so_far raw) end final
 
 -- a reply that is no act's is not written whole
 abbrev pub NotWritten : Reply → (written written' : Option (List ℕ)) → End → Type 0

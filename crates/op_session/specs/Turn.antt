@@ -5,7 +5,7 @@ use Rattle.std.specs.declared.result.Result.{Result}
 use Rattle.op_ports.specs.Clock.{AsksKnown}
 use Rattle.op_ports.specs.Words.{DrawsKnown}
 use Rattle.op_model.specs.History.{moment_of_turn}
-use Rattle.op_model.specs.Meant.{meant}
+use Rattle.op_model.specs.Meant.{meant_so_far}
 use Rattle.op_model.specs.Printed.{printed}
 use Rattle.op_model.specs.Round.{Terms, Handled, IsPlainRound, refusal_reply}
 use Rattle.op_model.specs.Requests.{Raw, IsWholeRequest}
@@ -83,7 +83,7 @@ pub record Begins (allows : Terms) (old : Standing) (turn : Turn) (new : Standin
   pub whole : length turn.word ≡ 16
   -- its round: what it adds to the history, all of it or none
   pub entries : List Entry
-  pub replied : IsReplied allows (now old.stood) turn (meant turn.raw) (now old.stood ++ entries)
+  pub replied : IsReplied allows (now old.stood) turn (meant_so_far turn.raw) (now old.stood ++ entries)
   pub stands : new.stood ≡ with_entries old.stood entries
   pub counted : new.answered ≡ old.answered + 1
   pub moved : new.at ≡ old.at + length turn.text
