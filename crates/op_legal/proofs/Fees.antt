@@ -10,7 +10,7 @@ use Rattle.op_amount.specs.declared.TheConstants.{TOP}
 use Rattle.op_model.specs.Answer.{fee_asked, fee_asked_by}
 use Rattle.op_model.specs.Asking.{Found, address_named}
 use Rattle.op_model.specs.PaymentAnswers.{FeeAsked, Pricing, QuotePricing, fee_of_pricing, quote_pricing, direct_pricing, receiver_named}
-use Rattle.op_model.specs.Round.{Terms, IsFee}
+use Rattle.op_model.specs.Round.{FeesAllowed, IsFee}
 use Rattle.op_model.specs.declared.act.Entry.{Entry}
 use Rattle.op_model.specs.declared.request.PaymentAsked.TheVariants.{Quoted, Direct}
 use Rattle.op_model.specs.declared.request.Request.{Request}
@@ -51,10 +51,10 @@ small_asked history t (Step payment k) = tt
 small_asked history t (Expire incoming) = tt
 small_asked history t (Attempt event outcome) = tt
 
-charged_by : (allows : Terms) (asked : Option FeeAsked) (fee : ℕ) → AreWithin allows → IsSmall asked → MatchOption asked (fee ≡ 0) (λ a. allows a.pair a.amount fee) → MatchOption asked (fee ≡ 0) (λ a. fee ≤ a.amount)
+charged_by : (allows : FeesAllowed) (asked : Option FeeAsked) (fee : ℕ) → AreWithin allows → IsSmall asked → MatchOption asked (fee ≡ 0) (λ a. allows a.pair a.amount fee) → MatchOption asked (fee ≡ 0) (λ a. fee ≤ a.amount)
 charged_by allows None fee within small h = h
 charged_by allows (Some a) fee within small h = within a.pair a.amount fee small h
 
 -- what the terms allow is charged
-pub charged : (allows : Terms) (history : List Entry) (t : ℕ) (task : Task) (fee : ℕ) → AreWithin allows → IsFee allows history t task fee → MatchOption (fee_asked history t task) (fee ≡ 0) (λ a. fee ≤ a.amount)
+pub charged : (allows : FeesAllowed) (history : List Entry) (t : ℕ) (task : Task) (fee : ℕ) → AreWithin allows → IsFee allows history t task fee → MatchOption (fee_asked history t task) (fee ≡ 0) (λ a. fee ≤ a.amount)
 charged allows history t task fee within h = charged_by allows (fee_asked history t task) fee within (small_asked history t task) h

@@ -7,7 +7,7 @@ use Rattle.std.specs.List.{AllByRecursion, filter_map, range_with_len, cons_opti
 use Rattle.std.specs.Option.{option_map_or}
 use Rattle.op_model.specs.Answer.{answer}
 use Rattle.op_model.specs.Laws.{is_step_of}
-use Rattle.op_model.specs.Round.{Terms, Handled, IsHandled, act_place}
+use Rattle.op_model.specs.Round.{FeesAllowed, Handled, IsHandled, act_place}
 use Rattle.op_model.specs.Steps.{step_act}
 use Rattle.op_model.specs.declared.act.Act.{Act}
 use Rattle.op_model.specs.declared.act.Act.TheVariants as acts
@@ -79,7 +79,7 @@ module _ (p k : ℕ) (entries : List Entry) where
       let whole = sum_by-cons (λ i. cond (step_at i) 1 0) place xs in
       omega (arith, le, whole)
 
-module _ (allows : Terms) (history : List Entry) (t p k : ℕ) (entries : List Entry) where
+module _ (allows : FeesAllowed) (history : List Entry) (t p k : ℕ) (entries : List Entry) where
   acting : Handled → Bool
   acting one = is_task_of p k one.task && is_some (act_place history t entries one)
 
@@ -98,7 +98,7 @@ module _ (allows : Terms) (history : List Entry) (t p k : ℕ) (entries : List E
       let more = with_place p k entries (is_task_of p k one.task) (act_place history t entries one) (count_by acting tasks) 0 (filter_map (act_place history t entries) tasks) (step_there one handled.0) (count_tasks tasks handled.1) in
       omega (arith, whole, more)
 
-pub steps_act_once : (allows : Terms) → AreWithin allows → StepsActOnce allows
+pub steps_act_once : (allows : FeesAllowed) → AreWithin allows → StepsActOnce allows
 unfolding acting
 steps_act_once allows within history t tasks entries p k begins round =
     let once = once_from history entries p k 0 (legal_round allows history t tasks entries within begins round) (omega arith) in

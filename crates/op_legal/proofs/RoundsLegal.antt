@@ -12,7 +12,7 @@ use Rattle.op_time.specs.declared.TheConstants.{LAST}
 use Rattle.op_model.specs.Answer.{answer}
 use Rattle.op_model.specs.History.{last_moment, with_act}
 use Rattle.op_model.specs.Legal.{IsLegal, IsLegalFrom, IsNext, is_proper}
-use Rattle.op_model.specs.Round.{Terms, Handled, IsWanting, IsRound, IsHandled, IsAnswered, IsHandledNext, outcome_at, act_place}
+use Rattle.op_model.specs.Round.{FeesAllowed, Handled, IsWanting, IsRound, IsHandled, IsAnswered, IsHandledNext, outcome_at, act_place}
 use Rattle.op_model.specs.declared.act.Act.{Act}
 use Rattle.op_model.specs.declared.act.Entry.{Entry}
 use Rattle.op_model.proofs.LegalNext.{legal_from-joined, MayFollow, legal-with_act}
@@ -77,19 +77,19 @@ entry_of : (entries : List Entry) (t place : ℕ) (made : Option Act) (act : Act
 entry_of entries t place None act has is = none_is_not act is
 entry_of entries t place (Some a) act has is = has ∙ ap (λ x. Some (record { at = t; act = x })) (some_is a act is)
 
-pub answered : (allows : Terms) (history : List Entry) (t : ℕ) (entries : List Entry) (one : Handled) → IsHandled allows history t entries one → one.wanted_memory ≡ false → IsAnswered allows history t entries one
+pub answered : (allows : FeesAllowed) (history : List Entry) (t : ℕ) (entries : List Entry) (one : Handled) → IsHandled allows history t entries one → one.wanted_memory ≡ false → IsAnswered allows history t entries one
 answered allows history t entries one is not = pick is.told
   where
     pick : ((one.wanted_memory ≡ true) × IsWanting one) ⊎ ((one.wanted_memory ≡ false) × IsAnswered allows history t entries one) → IsAnswered allows history t entries one
     pick (inl both) = absurd (let e : true ≡ false = sym both.0 ∙ not in cc)
     pick (inr both) = both.1
 
-pub stands_at : (allows : Terms) (history : List Entry) (t : ℕ) (entries : List Entry) (one : Handled) (place : ℕ) → IsHandled allows history t entries one → (is : IsActor history t entries one place) → slice_get entries place ≡ Some (record { at = t; act = is.act })
+pub stands_at : (allows : FeesAllowed) (history : List Entry) (t : ℕ) (entries : List Entry) (one : Handled) (place : ℕ) → IsHandled allows history t entries one → (is : IsActor history t entries one place) → slice_get entries place ≡ Some (record { at = t; act = is.act })
 stands_at allows history t entries one place handled is =
     subst (λ n. slice_get entries n ≡ Some (record { at = t; act = is.act })) is.at
     (entry_of entries t one.place (outcome_at history t entries one).act is.act (answered allows history t entries one handled is.answers).act is.acts)
 
-module _ (allows : Terms) (within : AreWithin allows) (history : List Entry) (t : ℕ) (entries : List Entry) (later : last_moment history ≤ t) (limit : t ≤ LAST) (moments : AllByRecursion (λ e. e.at ≡ t) entries) where
+module _ (allows : FeesAllowed) (within : AreWithin allows) (history : List Entry) (t : ℕ) (entries : List Entry) (later : last_moment history ≤ t) (limit : t ≤ LAST) (moments : AllByRecursion (λ e. e.at ≡ t) entries) where
   act_at : (one : Handled) (place : ℕ) → IsTrue (is_proper history one.task) → IsHandled allows history t entries one → act_place history t entries one ≡ Some place → IsAct history t entries place
   act_at one place proper handled h =
       let is = actor history t entries one place h in
@@ -126,7 +126,7 @@ module _ (allows : Terms) (within : AreWithin allows) (history : List Entry) (t 
       )
 
 -- each entry of a round may follow those before it, whether the history is legal or not
-pub legal_round : (allows : Terms) (history : List Entry) (t : ℕ) (tasks : List Handled) (entries : List Entry) → AreWithin allows → MayBegin history t tasks → IsRound allows history t tasks entries → IsLegalFrom history entries
+pub legal_round : (allows : FeesAllowed) (history : List Entry) (t : ℕ) (tasks : List Handled) (entries : List Entry) → AreWithin allows → MayBegin history t tasks → IsRound allows history t tasks entries → IsLegalFrom history entries
 legal_round allows history t tasks entries within begins round =
     let places = filter_map (act_place history t entries) tasks in
     let range = range_with_len 0 (length entries) in
@@ -138,7 +138,7 @@ legal_round allows history t tasks entries within begins round =
     subst (IsAct history t entries) (get_or-range_with_len 0 (length entries) k 0 h ∙ number) (acts k 0 (omega (arith, h, counted))) in
     subst (λ before. IsLegalFrom before entries) (append-nil history) (legal_behind allows within history t entries begins.later begins.limit round.moment each [] entries refl)
 
-pub rounds_keep : (allows : Terms) → AreWithin allows → RoundsKeepLegal allows
+pub rounds_keep : (allows : FeesAllowed) → AreWithin allows → RoundsKeepLegal allows
 rounds_keep allows within history t tasks entries legal begins round = legal_from-joined [] history entries legal (legal_round allows history t tasks entries within begins round)
 
 -- ---- in the order of the list
@@ -165,7 +165,7 @@ begins_on history t act tasks begins =
     let more = option_to_list (option_map (λ a. let e : Entry = record { at = t; act = a } in e) act) in
     record { later = still_later history more t begins.later (all_at t act); limit = begins.limit; proper = all_proper history more tasks begins.proper }
 
-left_by : (allows : Terms) (old : List Entry) (t : ℕ) (one : Handled) (tasks : List Handled) (new : List Entry) → AreWithin allows → IsLegal old → MayBegin old t (one ∷ tasks) → IsHandledNext allows old t one new → IsLeft old t tasks new
+left_by : (allows : FeesAllowed) (old : List Entry) (t : ℕ) (one : Handled) (tasks : List Handled) (new : List Entry) → AreWithin allows → IsLegal old → MayBegin old t (one ∷ tasks) → IsHandledNext allows old t one new → IsLeft old t tasks new
 left_by allows old t one tasks new within legal begins (inl wants) =
     subst (IsLeft old t tasks) (sym wants.2) (record { legal = legal; begins = record { later = begins.later; limit = begins.limit; proper = begins.proper.1 } })
 left_by allows old t one tasks new within legal begins (inr acts) =
@@ -175,7 +175,7 @@ left_by allows old t one tasks new within legal begins (inr acts) =
     subst (IsLeft old t tasks) (sym acts.3)
     (record { legal = legal-with_act old t act legal may; begins = begins_on old t act tasks (record { later = begins.later; limit = begins.limit; proper = begins.proper.1 }) })
 
-pub plain_rounds_keep : (allows : Terms) → AreWithin allows → PlainRoundsKeepLegal allows
+pub plain_rounds_keep : (allows : FeesAllowed) → AreWithin allows → PlainRoundsKeepLegal allows
 plain_rounds_keep allows within begun old t [] new legal begins round = subst IsLegal (sym round) legal
 plain_rounds_keep allows within begun old t (one ∷ tasks) new legal begins round =
     let left = left_by allows old t one tasks round.0 within legal begins round.1 in
