@@ -1,8 +1,8 @@
 -- What the program does, and the exit status that it answers.
 use Rattle.std.specs.Prelude.{ℕ, Bool, false, ◌&&◌, ◌==◌, not, nat_le, List, [], ◌∷◌, length, slice_index, codes}
 use Rattle.std.specs.Str.{bytes_eq}
-use Rattle.op_model.specs.declared.end.End.{End}
-use Rattle.op_model.specs.declared.end.End.TheVariants.{Done, ReadFault, DiskFault, WriteFault, JournalFull, OutOfMemory, WordsFault, Malformed, TurnLimit}
+use Rattle.op_session.specs.declared.end.End.{End}
+use Rattle.op_session.specs.declared.end.End.TheVariants.{Done, ReadFault, DiskFault, WriteFault, JournalFull, OutOfMemory, WordsFault, Malformed, TurnLimit}
 
 -- ---- the words of the command line
 
