@@ -4,11 +4,13 @@ pub mod Depths
 mod Fields
 mod Heads
 pub mod Items
+pub mod KeptForms
+pub mod KeptItems
+pub mod NotTexts
 mod Objects
-pub mod PrintableNames
 pub mod PublicNames
+pub mod Queries
 pub mod References
-mod Routes
 pub mod Starts
 pub mod ValueForms
 pub mod Yields

@@ -1,13 +1,11 @@
 -- What reading a request answers.
-use Rattle.std.specs.Prelude.{◌≡◌, ℕ, List, ⊤, IsTrue, Some, None, Ok, Err, IfSome, MatchResult}
+use Rattle.std.specs.Prelude.{◌≡◌, ℕ, List, ⊤, Some, None, Ok, Err, IfSome, MatchResult}
 use Rattle.std.specs.Str.{IsUtf8}
 use Rattle.std.specs.declared.result.Result.{Result}
 use Rattle.op_http.specs.declared.route.RouteFault.{RouteFault}
 use Rattle.op_http.specs.declared.route.RouteFault.TheVariants as routes
 use Rattle.op_model.specs.GrantMembers.{in_grant}
 use Rattle.op_model.specs.Json.{object_in}
-use Rattle.op_model.specs.Printed.{is_built}
-use Rattle.op_model.specs.declared.reply.ReplyBody.TheVariants as model
 use Rattle.op_model.specs.declared.reply.Refusal.{Refusal}
 use Rattle.op_model.specs.declared.reply.Refusal.TheVariants.{NotFound, MethodNotAllowed, BadJson, BadField, InvalidRequest}
 use Rattle.op_model.specs.declared.request.Request.{Request}
@@ -31,6 +29,10 @@ IsRefusedAs meant Memory = ⊤
 abbrev pub IsMeant : {X : Type 0} → Result X Refusal → Result X ApiFault → Type 0
 IsMeant meant result = MatchResult result (λ value. meant ≡ Ok value) (IsRefusedAs meant)
 
+-- nothing is refused, or this is
+abbrev pub IsRefusedIf : Result (Unit {0}) Refusal → Result ⊤ ApiFault → Type 0
+IsRefusedIf meant result = MatchResult result (λ u. meant ≡ Ok tt) (IsRefusedAs meant)
+
 -- the refusal names this member
 abbrev pub IsNamed : List ℕ → ApiFault → Type 0
 IsNamed name (Refused refusal) = refusal ≡ BadField name
@@ -41,17 +43,13 @@ abbrev pub request_of : Result (Request × Verdict) ApiFault → Result Request 
 request_of (Ok (request, verdict)) = Ok request
 request_of (Err fault) = Err fault
 
--- the refusal has a printed form
-abbrev pub IsPrintable : ApiFault → Type 0
-IsPrintable (Refused refusal) = IsTrue (is_built (model.Refused refusal))
-IsPrintable Memory = ⊤
-
 -- one of the refusals that reading a request gives; the name that it tells is a text
 abbrev pub IsReadingRefusal : Refusal → Type 0
 IsReadingRefusal NotFound = ⊤
 IsReadingRefusal (MethodNotAllowed allow) = ⊤
 IsReadingRefusal BadJson = ⊤
 IsReadingRefusal (BadField name) = IsUtf8 name
+IsReadingRefusal (InvalidRequest name) = IfSome name IsUtf8
 IsReadingRefusal _ = ⊥
 
 abbrev pub IsReadingFault : ApiFault → Type 0

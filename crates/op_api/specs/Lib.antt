@@ -1,4 +1,3 @@
 pub mod Body
 pub mod Readers
-pub mod Routes
 pub mod Slots

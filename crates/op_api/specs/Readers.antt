@@ -3,15 +3,19 @@ use Rattle.std.specs.Prelude.{◌≡◌, ⊤, List, ℕ, if◌then◌else◌, So
 use Rattle.std.specs.declared.option.Option.{Option}
 use Rattle.std.specs.declared.result.Result.{Result}
 use Rattle.std.specs.declared.alloc.AllocError.{AllocError}
+use Rattle.op_names.specs.declared.AddressName.{AddressName}
+use Rattle.op_names.specs.declared.Kind.{Kind}
 use Rattle.op_names.specs.declared.NameFault.{NameFault}
 use Rattle.op_names.specs.declared.NameFault.TheVariants as faults
 use Rattle.op_amount.specs.declared.Amount.{Amount}
 use Rattle.op_model.specs.Json.{with_members}
 use Rattle.op_model.specs.Legal.{is_text}
 use Rattle.op_model.specs.Members.{transfer_members}
+use Rattle.op_model.specs.Parameters.{list_parameters}
 use Rattle.op_model.specs.declared.request.AccountName.{AccountName}
 use Rattle.op_model.specs.declared.request.Request.{Request}
 use Rattle.op_api.specs.Body.{IsMeant}
+use Rattle.op_api.specs.declared.parameters.ListAsked.{ListAsked}
 use Rattle.op_api.specs.declared.provider.Transfer.{Transfer}
 use Rattle.op_api.specs.declared.request.ApiFault.{ApiFault}
 use Rattle.serde_json.specs.Data.{Data}
@@ -29,6 +33,15 @@ IsShaped (Err faults.Memory) (Err e) = ⊤
 -- a public name: a text of at most 128 bytes
 abbrev pub public_name_of : Data → Option (List ℕ)
 public_name_of v = option_and_then (λ text. if is_text 128 text then Some text else None) (as_str v)
+
+-- a target means this page of a list, of whatever kind of rows
+abbrev pub list_asked : (Option AddressName → ℕ → Option ℕ → Request) → Result ListAsked ApiFault → Result Request ApiFault
+list_asked request (Ok page) = Ok (request page.address page.first page.cursor)
+list_asked request (Err fault) = Err fault
+
+abbrev pub IsList : Kind → List ℕ → Result ListAsked ApiFault → Type 0
+IsList kind target result =
+    (request : Option AddressName → ℕ → Option ℕ → Request) → IsMeant (list_parameters kind request target) (list_asked request result)
 
 -- a body means this transfer, whichever way it goes
 abbrev pub request_with : (List ℕ → AccountName → Amount → Request) → Transfer → Request

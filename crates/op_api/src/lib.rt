@@ -7,6 +7,7 @@ mod constant;
 mod grants;
 mod members;
 mod names;
+mod parameters;
 mod payments;
 mod provider;
 mod request;

@@ -2,9 +2,13 @@
 ghost use Rattle.std.specs.Prelude.{◌≡◌, ◌≤◌, IfOk, IfErr, option_map};
 ghost use Rattle.serde_json.specs.Data.{depth};
 ghost use Rattle.serde_json.specs.Read.{max_depth};
+ghost use Rattle.serde_json.specs.Find.{as_str};
 ghost use Rattle.serde_json.specs.View.{items_view, view};
+ghost use Rattle.op_model.specs.Asking.{refuse_if};
+ghost use Rattle.op_model.specs.Members.{optional_of};
+ghost use Rattle.op_model.specs.declared.reply.Refusal.TheVariants.{BadField};
 ghost use Rattle.op_model.specs.Json.{items_list, list_in, optional_in, or_bad, text_in};
-ghost use Rattle.op_api.specs.Body.{IsMeant, IsNamed, IsObject, IsBodyFault};
+ghost use Rattle.op_api.specs.Body.{IsBodyFault, IsMeant, IsNamed, IsObject, IsRefusedIf};
 
 use crate::request::ApiFault;
 use op_model::{Refusal, Text};
@@ -60,6 +64,16 @@ pub(crate) fn optional_in<'a>(object: &'a Value, name: &str) -> Option<&'a Value
     if value.is_null() { None } else { Some(value) }
 }
 
+/// An optional member that is a text.
+pub(crate) fn optional_text<'a>(object: &'a Value, name: &str) -> Option<Option<&'a str>>
+    ensures { option_map (λ read. option_map (λ text. text.now) read) result ≡ optional_of as_str name.now (view object.now) }
+{
+    match optional_in(object, name) {
+        Some(value) => Some(Some(value.as_str()?)),
+        None => Some(None),
+    }
+}
+
 /// A text of these bytes.
 pub(crate) fn text_of(alloc: Global, bytes: &[u8]) -> Result<Text, AllocError>
     ensures { IfOk result (λ text. text ≡ bytes.now) }
@@ -86,5 +100,17 @@ pub(crate) fn required<T>(alloc: Global, value: Option<T>, name: &str) -> Result
     match value {
         Some(value) => Ok(value),
         None => Err(bad_member(alloc, name)),
+    }
+}
+
+/// The refusal that names a member, where something holds.
+pub(crate) fn refuse_if(alloc: Global, holds: bool, name: &str) -> Result<(), ApiFault>
+    ensures meant { IsRefusedIf (refuse_if holds (BadField name.now)) result }
+    ensures forms { IfErr result IsBodyFault }
+{
+    if holds {
+        Err(bad_member(alloc, name))
+    } else {
+        Ok(())
     }
 }
