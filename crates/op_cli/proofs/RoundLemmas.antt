@@ -8,7 +8,7 @@ use Rattle.op_desk.specs.Wallets.{Handles}
 use Rattle.op_ports.specs.Sink.{AppendsFront}
 use Rattle.op_model.specs.History.{moment_of_turn}
 use Rattle.op_model.specs.Printed.{printed}
-use Rattle.op_model.specs.Round.{Terms, refusal_reply}
+use Rattle.op_model.specs.Round.{FeesAllowed, refusal_reply}
 use Rattle.op_model.specs.declared.act.Entry.{Entry}
 use Rattle.op_model.specs.declared.reply.Reply.{Reply}
 use Rattle.op_model.specs.declared.reply.Refusal.{Refusal}
@@ -26,26 +26,26 @@ use Rattle.op_cli.proofs.Journals.{no_more}
 
 -- ---- handling
 
-pub handles_same : (allows : Terms) (a b new : List Entry) (s t p q : ℕ) (task : Task) (word : List ℕ) (reply : Reply) → a ≡ b → s ≡ t → p ≡ q → Handles allows a s p task word reply new → Handles allows b t q task word reply new
+pub handles_same : (allows : FeesAllowed) (a b new : List Entry) (s t p q : ℕ) (task : Task) (word : List ℕ) (reply : Reply) → a ≡ b → s ≡ t → p ≡ q → Handles allows a s p task word reply new → Handles allows b t q task word reply new
 handles_same allows a b new s t p q task word reply x y z h =
     subst (λ (n : ℕ). Handles allows b t n task word reply new) z (subst (λ (n : ℕ). Handles allows b n p task word reply new) y (subst (λ (k : List Entry). Handles allows k s p task word reply new) x h))
 
 -- a round that began with what stands
-pub handles_from : (allows : Terms) (history begun entries : List Entry) (s : Stood) (answer : ℕ) (task : Task) (word : List ℕ) (reply : Reply) → now s ≡ history → begun ≡ history → Handles allows history (moment_of_turn history answer) 0 task word reply (begun ++ entries)
+pub handles_from : (allows : FeesAllowed) (history begun entries : List Entry) (s : Stood) (answer : ℕ) (task : Task) (word : List ℕ) (reply : Reply) → now s ≡ history → begun ≡ history → Handles allows history (moment_of_turn history answer) 0 task word reply (begun ++ entries)
     → Handles allows (now s) (moment_of_turn (now s) answer) 0 task word reply (now s ++ entries)
 handles_from allows history begun entries s answer task word reply is from h =
     subst (λ (k : List Entry). Handles allows k (moment_of_turn k answer) 0 task word reply (k ++ entries)) (sym is) (subst (λ (k : List Entry). Handles allows history (moment_of_turn history answer) 0 task word reply (k ++ entries)) from h)
 
 -- a task that is handled is answered in a turn
-pub answers_handled : (allows : Terms) (old entries : List Entry) (verdict : Verdict) (answer : ℕ) (word : List ℕ) (request : Request) (reply : Reply) → Handles allows old (moment_of_turn old answer) 0 (Ask request verdict) word reply (old ++ entries) → Answers allows old verdict answer word (Ok request) reply entries
+pub answers_handled : (allows : FeesAllowed) (old entries : List Entry) (verdict : Verdict) (answer : ℕ) (word : List ℕ) (request : Request) (reply : Reply) → Handles allows old (moment_of_turn old answer) 0 (Ask request verdict) word reply (old ++ entries) → Answers allows old verdict answer word (Ok request) reply entries
 answers_handled allows old entries verdict answer word request reply (fee, wanted, handled) = (fee, wanted, λ text raw. (old ++ entries, handled, omega arith, refl))
 
 -- a refusal of what means no request
-pub answers_refused : (allows : Terms) (old : List Entry) (verdict : Verdict) (answer : ℕ) (word : List ℕ) (refusal : Refusal) → Answers allows old verdict answer word (Err refusal) (refusal_reply old refusal) []
+pub answers_refused : (allows : FeesAllowed) (old : List Entry) (verdict : Verdict) (answer : ℕ) (word : List ℕ) (refusal : Refusal) → Answers allows old verdict answer word (Err refusal) (refusal_reply old refusal) []
 answers_refused allows old verdict answer word refusal = (0, false, λ text raw. (refl, append-nil old))
 
 -- memory is wanting
-pub answers_wanting : (allows : Terms) (old : List Entry) (verdict : Verdict) (answer : ℕ) (word : List ℕ) (asked : Result Request Refusal) → Answers allows old verdict answer word asked (refusal_reply old Memory) []
+pub answers_wanting : (allows : FeesAllowed) (old : List Entry) (verdict : Verdict) (answer : ℕ) (word : List ℕ) (asked : Result Request Refusal) → Answers allows old verdict answer word asked (refusal_reply old Memory) []
 answers_wanting allows old verdict answer word (Ok request) = (0, true, λ text raw. (old ++ [], inl (refl, (tt, refl), append-nil old), omega arith, refl))
 answers_wanting allows old verdict answer word (Err refusal) = (0, true, λ text raw. (refl, append-nil old))
 
@@ -69,7 +69,7 @@ module _ (old : Stood) (entries : List Entry) (written written' : Option (List �
   lost_for_room end last some is (inr (cut, front)) =
       subst (λ (e : End). NotStood old entries written written' text e (unfit_after old (with_entries old entries))) (sym cut) (inr (inr (some, subst (λ (k : List ℕ). AppendsFront written written' k) is front, refl)))
 
-module _ (allows : Terms) (old : Stood) (written written' : Option (List ℕ)) (answer : ℕ) (word : List ℕ) where
+module _ (allows : FeesAllowed) (old : Stood) (written written' : Option (List ℕ)) (answer : ℕ) (word : List ℕ) where
   pub not_handled : (entries : List Entry) (task : Task) (reply : Reply) (end : End) (final : Final) → Handles allows (now old) (moment_of_turn (now old) answer) 0 task word reply (now old ++ entries) → NotStood old entries written written' (printed reply) end final
       → NotHandled allows old written written' answer word task end final
   not_handled entries task reply ends.Done final h n = (entries, reply, h, n)

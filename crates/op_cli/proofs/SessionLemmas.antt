@@ -3,7 +3,7 @@ use Rattle.std.proofs.Common.{◌≡◌, ℕ, List, [], ◌∷◌, Some, None, r
 use Rattle.std.specs.declared.option.Option.{Option}
 use Rattle.std.specs.Io.KnownBytes.{prepend_known}
 use Rattle.op_http.specs.Held.{Held}
-use Rattle.op_model.specs.Round.{Terms}
+use Rattle.op_model.specs.Round.{FeesAllowed}
 use Rattle.op_model.specs.declared.act.Entry.{Entry}
 use Rattle.op_session.specs.Session.{Final, Session, Ends, begun, settled}
 use Rattle.op_session.specs.Stood.{Stood, opened_with}
@@ -23,15 +23,15 @@ pub begins_fresh : (first : List Entry) (w : World) → here (opened_with first)
 begins_fresh first w = ap (λ (left : Option (List ℕ)). let s : Standing = record { stood = opened_with first; answered = 0; at = 0; world = record w { left = left } } in s) (prepend_nothing w.left)
 
 -- a turn, and the rest
-pub one_more : (allows : Terms) (a b : Standing) (turn : Turn) (after : World) (end : End) (final : Final) → IsTurn allows a turn b → Session allows b after end final → Session allows a after end final
+pub one_more : (allows : FeesAllowed) (a b : Standing) (turn : Turn) (after : World) (end : End) (final : Final) → IsTurn allows a turn b → Session allows b after end final → Session allows a after end final
 one_more allows a b turn after end final is rest = record { turns = turn ∷ rest.turns; last = rest.last; run = (b, is, rest.run); ends = rest.ends }
 
 -- no turn
-pub at_once : (allows : Terms) (a : Standing) (after : World) (end : End) (final : Final) → Ends allows end a after final → Session allows a after end final
+pub at_once : (allows : FeesAllowed) (a : Standing) (after : World) (end : End) (final : Final) → Ends allows end a after final → Session allows a after end final
 at_once allows a after end final ends = record { turns = []; last = a; run = refl; ends = ends }
 
 -- as many requests were answered as one session answers
-pub at_limit : (allows : Terms) (stood : Stood) (held : Held) (w : World) (n : ℕ) → n ≡ turn_limit → Ends allows TurnLimit (here stood held w n) w (settled stood)
+pub at_limit : (allows : FeesAllowed) (stood : Stood) (held : Held) (w : World) (n : ℕ) → n ≡ turn_limit → Ends allows TurnLimit (here stood held w n) w (settled stood)
 at_limit allows stood held w n e = record {
   since = record { held = held.bytes; asked = []; drawn = [] };
   read = consumes_held held w.left;

@@ -9,10 +9,10 @@ use Rattle.op_http.specs.declared.reader.HttpFault.TheVariants as http
 use Rattle.op_ports.specs.Clock.{AsksKnown}
 use Rattle.op_ports.specs.Sink.{AppendsFront}
 use Rattle.op_ports.specs.Words.{DrawsKnown}
-use Rattle.op_model.specs.Meant.{meant}
+use Rattle.op_model.specs.Meant.{meant_so_far}
 use Rattle.op_model.specs.Printed.{printed}
 use Rattle.op_model.specs.Requests.{Raw, BeginsWithNoRequest}
-use Rattle.op_model.specs.Round.{Terms, refusal_reply}
+use Rattle.op_model.specs.Round.{FeesAllowed, refusal_reply}
 use Rattle.op_model.specs.Verdicts.{verdict_of}
 use Rattle.op_model.specs.declared.act.Entry.{Entry}
 use Rattle.op_model.specs.declared.reply.Reply.{Reply}
@@ -55,8 +55,8 @@ stays_read h h' left left' same = consumes_trans (stream h left) (stream h' left
 
 -- ---- a request was taken
 
-module _ (allows : Terms) (old : Stood) (h h' : Held) (w w' : World) (raw : Raw) (takes : Takes h h' w.left w'.left raw) (same : w'.accepts ≡ w.accepts) (n : ℕ) (below : n < turn_limit) where
-  begins : (entries : List Entry) (answer : ℕ) (word : List ℕ) (reply : Reply) → AsksKnown w.answers w'.answers (answer ∷ []) → DrawsKnown w.words w'.words (word ∷ []) → length word ≡ 16 → (answers : Answers allows (now old) (verdict_of w.accepts raw) answer word (meant raw) reply entries)
+module _ (allows : FeesAllowed) (old : Stood) (h h' : Held) (w w' : World) (raw : Raw) (takes : Takes h h' w.left w'.left raw) (same : w'.accepts ≡ w.accepts) (n : ℕ) (below : n < turn_limit) where
+  begins : (entries : List Entry) (answer : ℕ) (word : List ℕ) (reply : Reply) → AsksKnown w.answers w'.answers (answer ∷ []) → DrawsKnown w.words w'.words (word ∷ []) → length word ≡ 16 → (answers : Answers allows (now old) (verdict_of w.accepts raw) answer word (meant_so_far raw) reply entries)
       → Begins allows (here old h w n) (turn_of takes.text raw (verdict_of w.accepts raw) answer word answers.0 answers.1 reply) (here (with_entries old entries) h' w' (n + 1))
   begins entries answer word reply asks draws sized answers = record {
     limit = below;
@@ -77,7 +77,7 @@ module _ (allows : Terms) (old : Stood) (h h' : Held) (w w' : World) (raw : Raw)
   read_since : Consumes (stream h w.left) w'.left (takes.text ++ h'.bytes)
   read_since = consumes_trans (stream h w.left) (stream h' w'.left) w'.left takes.text h'.bytes takes.taken (consumes_held h' w'.left)
 
-  answers_one : (entries : List Entry) (answer : ℕ) (word : List ℕ) (reply : Reply) → AsksKnown w.answers w'.answers (answer ∷ []) → DrawsKnown w.words w'.words (word ∷ []) → length word ≡ 16 → (answers : Answers allows (now old) (verdict_of w.accepts raw) answer word (meant raw) reply entries)
+  answers_one : (entries : List Entry) (answer : ℕ) (word : List ℕ) (reply : Reply) → AsksKnown w.answers w'.answers (answer ∷ []) → DrawsKnown w.words w'.words (word ∷ []) → length word ≡ 16 → (answers : Answers allows (now old) (verdict_of w.accepts raw) answer word (meant_so_far raw) reply entries)
       → AnswersOne allows (here old h w n) (turn_of takes.text raw (verdict_of w.accepts raw) answer word answers.0 answers.1 reply) (here (with_entries old entries) h' w' (n + 1)) (record { held = takes.text ++ h'.bytes; asked = answer ∷ []; drawn = word ∷ [] })
   answers_one entries answer word reply asks draws sized answers = record {
     begun = begins entries answer word reply asks draws sized answers;
@@ -92,7 +92,7 @@ module _ (allows : Terms) (old : Stood) (h h' : Held) (w w' : World) (raw : Raw)
       (turn_of takes.text raw (verdict_of w.accepts raw) answer word answers.0 answers.1 reply, record { begun = begins entries answer word reply asks draws sized answers; written = written })
 
   -- its act did not come to stand
-  loses : (entries : List Entry) (answer : ℕ) (word : List ℕ) (reply : Reply) → AsksKnown w.answers w'.answers (answer ∷ []) → DrawsKnown w.words w'.words (word ∷ []) → length word ≡ 16 → (answers : Answers allows (now old) (verdict_of w.accepts raw) answer word (meant raw) reply entries) → entries ≢ []
+  loses : (entries : List Entry) (answer : ℕ) (word : List ℕ) (reply : Reply) → AsksKnown w.answers w'.answers (answer ∷ []) → DrawsKnown w.words w'.words (word ∷ []) → length word ≡ 16 → (answers : Answers allows (now old) (verdict_of w.accepts raw) answer word (meant_so_far raw) reply entries) → entries ≢ []
       → LosesRound allows (here old h w n) (here (with_entries old entries) h' w' (n + 1)) (record { held = takes.text ++ h'.bytes; asked = answer ∷ []; drawn = word ∷ [] })
   unfolding answers_one begins
   loses entries answer word reply asks draws sized answers some = record {
@@ -148,7 +148,7 @@ module _ (allows : Terms) (old : Stood) (h h' : Held) (w w' : World) (raw : Raw)
   fails_now ends.Malformed final fails = absurd fails.5
   fails_now ends.TurnLimit final fails = absurd fails.5
 
-module _ (allows : Terms) (old : Stood) (h h' : Held) (w w' : World) (raw : Raw) where
+module _ (allows : FeesAllowed) (old : Stood) (h h' : Held) (w w' : World) (raw : Raw) where
   pub turns : (entries : List Entry) → Takes h h' w.left w'.left raw → w'.accepts ≡ w.accepts → Replies allows (now old) entries w w' raw → Turns allows (here old h w) (here (with_entries old entries) h' w')
   turns entries takes same replies n below = turns_now allows old h h' w w' raw takes same n below entries replies
 
@@ -157,7 +157,7 @@ module _ (allows : Terms) (old : Stood) (h h' : Held) (w w' : World) (raw : Raw)
 
 -- ---- no request was taken
 
-module _ (allows : Terms) (old : Stood) (h h' : Held) (w : World) (left' : Option (List ℕ)) where
+module _ (allows : FeesAllowed) (old : Stood) (h h' : Held) (w : World) (left' : Option (List ℕ)) where
   -- the stream begins with no request
   pub refused : (end : End) (written' : Option (List ℕ)) (refusal : Refusal) (reply : Reply) → Stays h h' w.left left' → IsRefusal refusal h.at (stream h w.left) → reply ≡ refusal_reply (now old) refusal → RefusalEnds reply w.written written' end
       → Stops allows (here old h w) (record { left = left'; answers = w.answers; words = w.words; written = written'; accepts = w.accepts }) end (settled old)
@@ -217,7 +217,7 @@ module _ (allows : Terms) (old : Stood) (h h' : Held) (w : World) (left' : Optio
   }
 
 -- no request was read
-pub unread_stops : (allows : Terms) (old : Stood) (h h' : Held) (w : World) (left' written' : Option (List ℕ)) (end : End) (fault : HttpFault) → Refuses h h' w.left left' fault → Unread (now old) fault w.written written' end
+pub unread_stops : (allows : FeesAllowed) (old : Stood) (h h' : Held) (w : World) (left' written' : Option (List ℕ)) (end : End) (fault : HttpFault) → Refuses h h' w.left left' fault → Unread (now old) fault w.written written' end
     → Stops allows (here old h w) (record { left = left'; answers = w.answers; words = w.words; written = written'; accepts = w.accepts }) end (settled old)
 unread_stops allows old h h' w left' written' end (http.BadHttp at) (same, place, is) told = refused allows old h h' w left' end written' (refusals.BadHttp at) _ same (place, is) refl told
 unread_stops allows old h h' w left' written' end (http.LengthRequired at) (same, place, is) told = refused allows old h h' w left' end written' (refusals.LengthRequired at) _ same (place, is) refl told

@@ -5,7 +5,7 @@ use Rattle.std.specs.declared.option.Option.{Option}
 use Rattle.std.specs.Io.KnownBytes.{Consumes, Appends, Keeps}
 use Rattle.op_model.specs.Printed.{printed}
 use Rattle.op_model.specs.Requests.{IsEnded}
-use Rattle.op_model.specs.Round.{Terms, refusal_reply}
+use Rattle.op_model.specs.Round.{FeesAllowed, refusal_reply}
 use Rattle.op_model.specs.declared.act.Entry.{Entry}
 use Rattle.op_model.specs.declared.reply.Refusal.{Refusal}
 use Rattle.op_session.specs.Program.{code_of}
@@ -43,7 +43,7 @@ record IsRead (first : Standing) (turns : List Turn) (last : Standing) (bytes ol
   at : last.at ≡ first.at + length (texts turns)
   count : last.answered ≡ first.answered + length turns
 
-run_reads : (allows : Terms) (turns : List Turn) (first last : Standing) (bytes old : List ℕ) → Run allows first turns last → first.world.left ≡ Some bytes → first.world.written ≡ Some old → IsRead first turns last bytes old
+run_reads : (allows : FeesAllowed) (turns : List Turn) (first last : Standing) (bytes old : List ℕ) → Run allows first turns last → first.world.left ≡ Some bytes → first.world.written ≡ Some old → IsRead first turns last bytes old
 run_reads allows [] first last bytes old run l w = record {
   rest = bytes;
   left = ap (λ s. s.world.left) run ∙ l;
@@ -75,7 +75,7 @@ nothing_behind new old replied e = e ∙ ap (λ (k : List ℕ). Some (old ++ k))
 
 -- ---- a whole session
 
-module _ (allows : Terms) (before after : World) (first : List Entry) (final : Final) where
+module _ (allows : FeesAllowed) (before after : World) (first : List Entry) (final : Final) where
   pub complete : (end : End) (s : Session allows (begun first before) after end final) (bytes old : List ℕ) → before.left ≡ Some bytes → before.written ≡ Some old → IsComplete end s.turns final bytes old after.written
   complete ends.Done s bytes old l w =
       let r = run_reads allows s.turns (begun first before) s.last bytes old s.run l w in

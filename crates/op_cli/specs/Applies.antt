@@ -7,7 +7,7 @@ use Rattle.op_desk.specs.declared.fault.DeskFault.{DeskFault}
 use Rattle.op_desk.specs.declared.fault.DeskFault.TheVariants as faults
 use Rattle.op_disk.specs.Calls.{LeavesOnly}
 use Rattle.op_journal.specs.Recovered.{IsOldOrShort}
-use Rattle.op_model.specs.Round.{Terms}
+use Rattle.op_model.specs.Round.{FeesAllowed}
 use Rattle.op_model.specs.declared.act.Entry.{Entry}
 use Rattle.op_session.specs.Program.{code_of, illegal_code}
 use Rattle.op_session.specs.Session.{Final, Session, begun, IsCompleteKnown}
@@ -46,7 +46,7 @@ pub record EveryMoment {D : Type 0} (seen : D → List ℕ) (moment : D → ℕ)
   pub most : moment new ≤ opened + 4 * length final.tried.rounds
 
 -- The journal is opened, and a session runs on the history that its disk spells, under the terms of the fee rule.
-pub record RunsOn {D : Type 0} (allows : Terms) (tells : Bool) (seen : D → List ℕ) (moment : D → ℕ) (since : D → ℕ → List ℕ → Type 0) (images : D → List ℕ → Type 0) (faults : D → ℕ) (old new : D) (before after : World) (code : ℕ) : Type 0 where
+pub record RunsOn {D : Type 0} (allows : FeesAllowed) (tells : Bool) (seen : D → List ℕ) (moment : D → ℕ) (since : D → ℕ → List ℕ → Type 0) (images : D → List ℕ → Type 0) (faults : D → ℕ) (old new : D) (before after : World) (code : ℕ) : Type 0 where
   pub first : List Entry
   pub end : End
   pub final : Final

@@ -2,14 +2,14 @@
 use Rattle.std.specs.Prelude.{◌≡◌, ◌⊎◌, ℕ, Bool, List, IsTrue}
 use Rattle.op_causes.specs.Causes.{Rose}
 use Rattle.op_desk.specs.Spelling.{SpellsSound}
-use Rattle.op_model.specs.Round.{Terms}
+use Rattle.op_model.specs.Round.{FeesAllowed}
 use Rattle.op_model.specs.declared.act.Entry.{Entry}
 use Rattle.op_session.specs.Stood.{now}
 use Rattle.op_session.specs.World.{World}
 use Rattle.op_cli.specs.Applies.{RunsOn}
 
 -- The calls may have fee rules of different terms.
-module _ {D : Type 0} (allows allows' : Terms) (tells : Bool) (seen : D → List ℕ) (moment : D → ℕ) (since : D → ℕ → List ℕ → Type 0) (images : D → List ℕ → Type 0) (faults : D → ℕ) where
+module _ {D : Type 0} (allows allows' : FeesAllowed) (tells : Bool) (seen : D → List ℕ) (moment : D → ℕ) (since : D → ℕ → List ℕ → Type 0) (images : D → List ℕ → Type 0) (faults : D → ℕ) where
   -- Where a call opened the journal and its disk did not fail, the next call that opens it begins with the history that stood
   -- at the end of the first, also where a crash came between the two.
   abbrev pub CallsAreOneHistory : Type 0

@@ -10,7 +10,7 @@ ghost use Rattle.op_desk.specs.Wallets.{IsSound, Handles};
 ghost use Rattle.op_model.specs.History.{moment_of_turn};
 ghost use Rattle.op_model.specs.Legal.{is_proper};
 ghost use Rattle.op_model.specs.declared.act.Entry.{Entry};
-ghost use Rattle.op_model.specs.Meant.{meant};
+ghost use Rattle.op_model.specs.Meant.{meant_so_far};
 ghost use Rattle.op_model.specs.Printed.{is_built, is_built_refusal, printed};
 ghost use Rattle.op_model.specs.Round.{refusal_reply};
 ghost use Rattle.op_model.specs.Verdicts.{verdict_of};
@@ -263,10 +263,10 @@ fn answer_one<D: Disk, K: Sink, V: Verifier, F: FeeRule>(
     requires ready { IsReady D.tells desk.old (D.seen disk.old) (D.images disk.old) }
     requires sound { IsSound (history_at desk.old) }
 
-    ensures ok { OnOk result (FromEach (history_at desk.old) (λ stood. (entries : List Entry) × (history_at desk.new ≡ now stood ++ entries) × Told F.FeeTerms.allows (now stood) entries (K.written sink.old) (K.written sink.new) (verdict_of (V.accepts verifier.now) raw.now) answer word.now (meant raw.now)
+    ensures ok { OnOk result (FromEach (history_at desk.old) (λ stood. (entries : List Entry) × (history_at desk.new ≡ now stood ++ entries) × Told F.FeeTerms.allows (now stood) entries (K.written sink.old) (K.written sink.new) (verdict_of (V.accepts verifier.now) raw.now) answer word.now (meant_so_far raw.now)
         × Leaves D.tells D.seen D.moment D.since D.images D.faults stood (settled (with_entries stood entries)) disk.old disk.new)) }
     ensures ready { OnOk result (IsReady D.tells desk.new (D.seen disk.new) (D.images disk.new)) }
-    ensures err { IfErr result (λ end. FromEach (history_at desk.old) (λ stood. (final : Final) × NotTold F.FeeTerms.allows stood (K.written sink.old) (K.written sink.new) (verdict_of (V.accepts verifier.now) raw.now) answer word.now (meant raw.now) end final
+    ensures err { IfErr result (λ end. FromEach (history_at desk.old) (λ stood. (final : Final) × NotTold F.FeeTerms.allows stood (K.written sink.old) (K.written sink.new) (verdict_of (V.accepts verifier.now) raw.now) answer word.now (meant_so_far raw.now) end final
         × Leaves D.tells D.seen D.moment D.since D.images D.faults stood final disk.old disk.new)) }
     ensures disk_cause { result ≡ Err DiskFault → Rose (D.faults disk.old) (D.faults disk.new) }
     ensures disk_kept { result ≢ Err DiskFault → result ≢ Err WriteFault → D.faults disk.new ≡ D.faults disk.old }

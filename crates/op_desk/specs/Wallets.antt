@@ -3,7 +3,7 @@ use Rattle.std.specs.Prelude.{ℕ, Bool, List, ◌++◌, IsTrue}
 use Rattle.std.specs.Option.{option_to_list}
 use Rattle.std.specs.declared.option.Option.{Option}
 use Rattle.op_model.specs.Legal.{IsNext, IsLegal}
-use Rattle.op_model.specs.Round.{Terms, Handled, IsHandledNext}
+use Rattle.op_model.specs.Round.{FeesAllowed, Handled, IsHandledNext}
 use Rattle.op_model.specs.declared.act.Entry.{Entry}
 use Rattle.op_model.specs.declared.reply.Reply.{Reply}
 use Rattle.op_model.specs.declared.request.Task.{Task}
@@ -30,7 +30,7 @@ handled_at place task word fee wanted reply =
     record { task = task; word = word; fee = fee; place = place; wanted_memory = wanted; reply = reply }
 
 -- the plain wallet's answer to a task at a moment, at this place of its round and with a fee that the terms allow, or want of memory
-abbrev pub Handles : Terms → (old : List Entry) → (t place : ℕ) → Task → (word : List ℕ) → Reply → (new : List Entry) → Type 0
+abbrev pub Handles : FeesAllowed → (old : List Entry) → (t place : ℕ) → Task → (word : List ℕ) → Reply → (new : List Entry) → Type 0
 Handles allows old t place task word reply new =
     (fee : ℕ) × (wanted : Bool) × IsHandledNext allows old t (handled_at place task word fee wanted reply) new
 

@@ -8,7 +8,7 @@ use Rattle.op_ports.specs.Sink.{AppendsFront}
 use Rattle.op_ports.specs.Words.{DrawsKnown}
 use Rattle.op_model.specs.Printed.{printed}
 use Rattle.op_model.specs.Requests.{IsWholeRequest, IsEnded, IsBadHttp, IsLengthRequired, IsTooLarge, BeginsWithNoRequest, Raw}
-use Rattle.op_model.specs.Round.{Terms, refusal_reply}
+use Rattle.op_model.specs.Round.{FeesAllowed, refusal_reply}
 use Rattle.op_model.specs.declared.act.Entry.{Entry}
 use Rattle.op_model.specs.declared.reply.Refusal.{Refusal}
 use Rattle.op_model.specs.declared.reply.Refusal.TheVariants.{BadHttp, LengthRequired, RequestTooLarge, DiskFault, JournalFull}
@@ -58,7 +58,7 @@ pub record IsIdle (last : Standing) (after : World) (since : Since) (final : Fin
   pub same : final ≡ settled last.stood
 
 -- a further request was read and answered
-pub record AnswersOne (allows : Terms) (last : Standing) (turn : Turn) (mid : Standing) (since : Since) : Type 0 where
+pub record AnswersOne (allows : FeesAllowed) (last : Standing) (turn : Turn) (mid : Standing) (since : Since) : Type 0 where
   pub begun : Begins allows last turn mid
   -- what was read behind it
   pub more : List ℕ
@@ -67,24 +67,24 @@ pub record AnswersOne (allows : Terms) (last : Standing) (turn : Turn) (mid : St
   pub drawn : since.drawn ≡ turn.word ∷ []
 
 -- some of its reply was written; its act stands
-abbrev pub CutsReply : Terms → Standing → World → Since → Final → Type 0
+abbrev pub CutsReply : FeesAllowed → Standing → World → Since → Final → Type 0
 CutsReply allows last after since final = (turn : Turn) × (mid : Standing) × AnswersOne allows last turn mid since
     × AppendsFront last.world.written after.written (printed turn.reply) × (final ≡ settled mid.stood)
 
 -- its round, which has entries, did not come to stand
-pub record LosesRound (allows : Terms) (last mid : Standing) (since : Since) : Type 0 where
+pub record LosesRound (allows : FeesAllowed) (last mid : Standing) (since : Since) : Type 0 where
   pub turn : Turn
   pub answered : AnswersOne allows last turn mid since
   pub acted : answered.begun.entries ≢ []
 
 -- the commit failed on the disk, and that is replied
-abbrev pub FailsOnDisk : Terms → Writing → Standing → World → Since → Final → Type 0
+abbrev pub FailsOnDisk : FeesAllowed → Writing → Standing → World → Since → Final → Type 0
 FailsOnDisk allows writes last after since final = (mid : Standing) × LosesRound allows last mid since
     × writes last.world.written after.written (printed (refusal_reply (now last.stood) DiskFault))
     × (final ≡ tried_after last.stood mid.stood)
 
 -- the round does not fit in the journal, and that is replied
-abbrev pub FailsForRoom : Terms → Writing → Standing → World → Since → Final → Type 0
+abbrev pub FailsForRoom : FeesAllowed → Writing → Standing → World → Since → Final → Type 0
 FailsForRoom allows writes last after since final = (mid : Standing) × LosesRound allows last mid since
     × writes last.world.written after.written (printed (refusal_reply (now last.stood) JournalFull))
     × (final ≡ unfit_after last.stood mid.stood)
@@ -116,7 +116,7 @@ pub record DrawsNone (last : Standing) (after : World) (since : Since) (final : 
   pub same : final ≡ settled last.stood
 
 -- why it ends
-abbrev pub Cause : Terms → End → Standing → World → Since → Final → Type 0
+abbrev pub Cause : FeesAllowed → End → Standing → World → Since → Final → Type 0
 Cause allows ends.Done last after since final =
     (last.answered < turn_limit) × IsEnded since.held × IsAtEnd after.left × IsIdle last after since final
 Cause allows ends.Malformed last after since final = Refuses Appends last after since final
@@ -135,7 +135,7 @@ Cause allows ends.OutOfMemory last after since final =
     (length since.asked ≤ 1) × (length since.drawn ≤ 1) × Keeps last.world.written after.written × (final ≡ settled last.stood)
 
 -- how it ends after its last whole turn
-pub record Ends (allows : Terms) (end : End) (last : Standing) (after : World) (final : Final) : Type 0 where
+pub record Ends (allows : FeesAllowed) (end : End) (last : Standing) (after : World) (final : Final) : Type 0 where
   -- read, asked and drawn, but not answered whole
   pub since : Since
   pub read : Consumes last.world.left after.left since.held
@@ -146,7 +146,7 @@ pub record Ends (allows : Terms) (end : End) (last : Standing) (after : World) (
 -- ---- the whole
 
 -- under the terms of the fee rule
-pub record Session (allows : Terms) (first : Standing) (after : World) (end : End) (final : Final) : Type 0 where
+pub record Session (allows : FeesAllowed) (first : Standing) (after : World) (end : End) (final : Final) : Type 0 where
   pub turns : List Turn
   pub last : Standing
   pub run : Run allows first turns last

@@ -239,11 +239,11 @@ impl Request {
             Request::ReadQuote { quote } => Ok(Request::ReadQuote { quote: *quote }),
             Request::MakeOutgoing {
                 address,
-                quote,
+                asked,
                 metadata,
             } => Ok(Request::MakeOutgoing {
                 address: clone_address(address, alloc)?,
-                quote: *quote,
+                asked: *asked,
                 metadata: clone_metadata(metadata, alloc)?,
             }),
             Request::ListOutgoings {

@@ -4,7 +4,7 @@ use Rattle.std.specs.Io.KnownBytes.{Appends}
 use Rattle.std.specs.declared.result.Result.{Result}
 use Rattle.op_desk.specs.Wallets.{Handles}
 use Rattle.op_model.specs.History.{moment_of_turn}
-use Rattle.op_model.specs.Meant.{meant}
+use Rattle.op_model.specs.Meant.{meant_so_far}
 use Rattle.op_model.specs.Printed.{printed}
 use Rattle.op_model.specs.Round.{refusal_reply}
 use Rattle.op_model.specs.Verdicts.{verdict_of}
@@ -67,7 +67,7 @@ returns-in-Err-Refused-clause-ok g c =
     let history = history_at c.args.desk.now in
     let verdict = verdict_of (g.V.Verifier.accepts c.args.verifier.now) c.args.raw.now in
     let refusal = c.in-Err-Refused.refusal in
-    let meant_so : meant c.args.raw.now ≡ Err refusal = rw c.in-Err-Refused.field-0-is at c.in-Err-Refused.ensures.meant in
+    let meant_so : meant_so_far c.args.raw.now ≡ Err refusal = rw c.in-Err-Refused.field-0-is at c.in-Err-Refused.ensures.meant in
     on_ok_map c.refuse_one.result
     (λ written stood is. (
       [],
@@ -86,11 +86,11 @@ returns-in-Err-Refused-clause-err g c =
     let history = history_at c.args.desk.now in
     let verdict = verdict_of (g.V.Verifier.accepts c.args.verifier.now) c.args.raw.now in
     let refusal = c.in-Err-Refused.refusal in
-    let meant_so : meant c.args.raw.now ≡ Err refusal = rw c.in-Err-Refused.field-0-is at c.in-Err-Refused.ensures.meant in
+    let meant_so : meant_so_far c.args.raw.now ≡ Err refusal = rw c.in-Err-Refused.field-0-is at c.in-Err-Refused.ensures.meant in
     if_err_map c.refuse_one.result
     (λ end failed stood is. (
       settled stood,
-      not_told_refused g.F.FeeTerms.allows stood _ _ c.args.answer c.args.word.now verdict (meant c.args.raw.now) (refusal_reply (now stood) refusal) end
+      not_told_refused g.F.FeeTerms.allows stood _ _ c.args.answer c.args.word.now verdict (meant_so_far c.args.raw.now) (refusal_reply (now stood) refusal) end
           (subst (λ (asked : Result Request Refusal). Answers g.F.FeeTerms.allows (now stood) verdict c.args.answer c.args.word.now asked (refusal_reply (now stood) refusal) []) (sym meant_so) (answers_refused g.F.FeeTerms.allows (now stood) verdict c.args.answer c.args.word.now refusal))
           (subst (λ (h : List Entry). NotWritten (refusal_reply h refusal) (g.K.Sink.written c.args.sink.now) (g.K.Sink.written c.refuse_one.new.sink) end) (sym is) failed),
       leaves_same g.D.Disk.tells g.D.Disk.seen g.D.Disk.moment g.D.Disk.since g.D.Disk.images g.D.Disk.faults g.met.D.Disk.only_now history c.args.disk.now c.requires.sound stood is,
@@ -107,7 +107,7 @@ returns-in-Err-Memory-clause-ok g c =
       unchanged history stood is,
       (
         refusal_reply (now stood) Memory,
-        answers_wanting g.F.FeeTerms.allows (now stood) verdict c.args.answer c.args.word.now (meant c.args.raw.now),
+        answers_wanting g.F.FeeTerms.allows (now stood) verdict c.args.answer c.args.word.now (meant_so_far c.args.raw.now),
         subst (λ (h : List Entry). Appends (g.K.Sink.written c.args.sink.now) (g.K.Sink.written c.refuse_one-in-Err-Memory.new.sink) (printed (refusal_reply h Memory))) (sym is) written,
       ),
       leaves_none g.D.Disk.tells g.D.Disk.seen g.D.Disk.moment g.D.Disk.since g.D.Disk.images g.D.Disk.faults g.met.D.Disk.only_now history c.args.disk.now c.requires.sound stood is,
@@ -121,7 +121,7 @@ returns-in-Err-Memory-clause-err g c =
     if_err_map c.refuse_one-in-Err-Memory.result
     (λ end failed stood is. (
       settled stood,
-      not_told_refused g.F.FeeTerms.allows stood _ _ c.args.answer c.args.word.now verdict (meant c.args.raw.now) (refusal_reply (now stood) Memory) end (answers_wanting g.F.FeeTerms.allows (now stood) verdict c.args.answer c.args.word.now (meant c.args.raw.now))
+      not_told_refused g.F.FeeTerms.allows stood _ _ c.args.answer c.args.word.now verdict (meant_so_far c.args.raw.now) (refusal_reply (now stood) Memory) end (answers_wanting g.F.FeeTerms.allows (now stood) verdict c.args.answer c.args.word.now (meant_so_far c.args.raw.now))
           (subst (λ (h : List Entry). NotWritten (refusal_reply h Memory) (g.K.Sink.written c.args.sink.now) (g.K.Sink.written c.refuse_one-in-Err-Memory.new.sink) end) (sym is) failed),
       leaves_same g.D.Disk.tells g.D.Disk.seen g.D.Disk.moment g.D.Disk.since g.D.Disk.images g.D.Disk.faults g.met.D.Disk.only_now history c.args.disk.now c.requires.sound stood is,
     ))
