@@ -3,7 +3,7 @@ use Rattle.std.proofs.Common.{◌≡◌, ℕ, List, Ok, refl, sym, ap, ◌∙◌
 use Rattle.op_http.specs.Routes.{Routed, route_with}
 use Rattle.op_http.specs.declared.route.Route.{Route}
 use Rattle.op_api.specs.Routes.{asked_on}
-use Rattle.op_model.specs.Meant.{meant, asked_if_built}
+use Rattle.op_model.specs.Meant.{meant_so_far, asked_if_built}
 use Rattle.op_model.specs.Requests.{Raw}
 use Rattle.op_model.specs.RouteTable.{operation_of, path_of}
 use Rattle.op_model.specs.declared.operation.Operation.{Operation}
@@ -39,6 +39,6 @@ asked_on_route operations.ListOutgoings path raw = refl
 asked_on_route operations.ReadOutgoing path raw = refl
 asked_on_route operations.ReadFeed path raw = refl
 
-pub meant_on_route : (raw : Raw) (route : Route) → Routed (operation_of raw.method raw.target) (path_of raw.target) (Ok route) → meant raw ≡ asked_on route raw
+pub meant_on_route : (raw : Raw) (route : Route) → Routed (operation_of raw.method raw.target) (path_of raw.target) (Ok route) → meant_so_far raw ≡ asked_on route raw
 meant_on_route raw route (operation, asked, is) =
     rw asked (asked_on_route operation (path_of raw.target) raw ∙ ap (λ (r : Route). asked_on r raw) (sym is))

@@ -8,13 +8,15 @@ use Rattle.std.proofs.lemmas.List.Concat.{flat_map-append}
 use Rattle.std.proofs.Math.Seq.{take-length}
 use Rattle.op_causes.specs.Causes.{Rose}
 use Rattle.op_desk.specs.Batches.{DeskValue, IsWhole}
-use Rattle.op_desk.specs.Spelling.{Spells, SpellsRounds, SpellsEither, Stands, LacksRoom, history_of, with_round}
+use Rattle.op_desk.specs.Spelling.{SpellsRounds, SpellsEither, Stands, LacksRoom, history_of, with_round}
 use Rattle.op_desk.specs.Wallets.{WalletValue, IsSound}
 use Rattle.op_disk.specs.Calls.{LeavesOnly}
 use Rattle.op_session.specs.Session.{Final, settled, tried_after, unfit_after}
 use Rattle.op_session.specs.Stood.{Stood, opened_with, entries_of, now, with_rounds, round_of, with_entries}
 use Rattle.op_model.specs.declared.act.Entry.{Entry}
-use Rattle.op_cli.specs.Kept.{FromEach, SpellsAtLeast, GoesOn, Lasts, IsUnfit, Leaves, Endures, Kept, IsReady, history_at}
+use Rattle.op_cli.specs.Kept.{AllSpell, FromEach, SpellsAtLeast, SpellsEnd, GoesOn, Lasts, IsUnfit, Leaves, Endures, Kept, IsReady, history_at}
+use Rattle.op_desk.proofs.Closing.{image_spells}
+use Rattle.op_desk.proofs.Unique.{one_spelling}
 
 -- ---- what stands, and more rounds
 
@@ -42,41 +44,38 @@ now_with s entries = now_more s (round_of entries) ∙ ap (λ (h : List Entry). 
 pub now_from : (history : List Entry) (s : Stood) (entries : List Entry) → now s ≡ history → now (with_entries s entries) ≡ history ++ entries
 now_from history s entries is = now_with s entries ∙ ap (λ (h : List Entry). h ++ entries) is
 
--- ---- histories and those that begin them
+-- ---- rounds and those that begin them
 
--- all of it
-pub spells_all : (least : ℕ) (s : Stood) (c : List ℕ) → least ≤ length s.rounds → Spells (now s) c → SpellsAtLeast least s c
-spells_all least s c enough is = (length s.rounds, enough, omega arith, subst (λ (rounds : List (List Entry)). Spells (s.found ++ entries_of rounds) c) (sym (take-length s.rounds)) is)
+-- all of them
+pub spells_all : (least : ℕ) (found new : List (List Entry)) (c : List ℕ) → least ≤ length new → SpellsRounds (found ++ new) c → SpellsAtLeast least found new c
+spells_all least found new c enough is = (length new, enough, omega arith, subst (λ (rounds : List (List Entry)). SpellsRounds (found ++ rounds) c) (sym (take-length new)) is)
 
--- what begins it begins more rounds
-pub spells_longer : (least : ℕ) (s : Stood) (more : List (List Entry)) (c : List ℕ) → SpellsAtLeast least s c → SpellsAtLeast least (with_rounds s more) c
-spells_longer least s more c (n, enough, within, is) =
-    (n, enough, omega (arith, within, length-append s.rounds more), subst (λ (rounds : List (List Entry)). Spells (s.found ++ entries_of rounds) c) (sym (take-append-le n s.rounds more within)) is)
+-- what begins rounds begins more of them
+pub spells_longer : (least : ℕ) (found new more : List (List Entry)) (c : List ℕ) → SpellsAtLeast least found new c → SpellsAtLeast least found (new ++ more) c
+spells_longer least found new more c (n, enough, within, is) =
+    (n, enough, omega (arith, within, length-append new more), subst (λ (rounds : List (List Entry)). SpellsRounds (found ++ rounds) c) (sym (take-append-le n new more within)) is)
 
--- ---- rounds as histories
+-- ---- a round behind rounds
 
 pub history_with : (rounds : List (List Entry)) (round : List Entry) → history_of (with_round rounds round) ≡ history_of rounds ++ round
 history_with rounds [] = sym (append-nil (history_of rounds))
 history_with rounds (e ∷ es) = flat_map-append (λ (round : List Entry). round) rounds ((e ∷ es) ∷ []) ∙ ap (λ (h : List Entry). history_of rounds ++ h) (append-nil (e ∷ es))
 
-pub spells_of : (rounds : List (List Entry)) (history : List Entry) (c : List ℕ) → history_of rounds ≡ history → SpellsRounds rounds c → Spells history c
-spells_of rounds history c e s = (rounds, s, e)
+round_behind : (found rounds : List (List Entry)) (round : List Entry) → with_round (found ++ rounds) round ≡ found ++ (rounds ++ round_of round)
+round_behind found rounds [] = ap (λ (more : List (List Entry)). found ++ more) (sym (append-nil rounds))
+round_behind found rounds (e ∷ es) = append_assoc found rounds ((e ∷ es) ∷ [])
 
-pub spells_with : (rounds : List (List Entry)) (before round : List Entry) (c : List ℕ) → history_of rounds ≡ before → SpellsRounds (with_round rounds round) c → Spells (before ++ round) c
-spells_with rounds before round c e s = (with_round rounds round, s, history_with rounds round ∙ ap (λ (h : List Entry). h ++ round) e)
+spells_round : (found : List (List Entry)) (s : Stood) (round : List Entry) (c : List ℕ) → SpellsRounds (with_round (found ++ s.rounds) round) c → SpellsRounds (found ++ (s.rounds ++ round_of round)) c
+spells_round found s round c spelled = subst (λ (rounds : List (List Entry)). SpellsRounds rounds c) (round_behind found s.rounds round) spelled
+
+-- what stands, or that with a round
+spells_either : (found : List (List Entry)) (s : Stood) (round : List Entry) (c : List ℕ) → SpellsEither (found ++ s.rounds) round c → SpellsRounds (found ++ s.rounds) c ⊎ SpellsRounds (found ++ (s.rounds ++ round_of round)) c
+spells_either found s round c (inl spelled) = inl spelled
+spells_either found s round c (inr spelled) = inr (spells_round found s round c spelled)
 
 -- where a round has no room behind a history, it has none behind what stands with it
 pub lacks_room : (history : List Entry) (s : Stood) (round : List Entry) (bytes : List ℕ) → now s ≡ history → LacksRoom history (history ++ round) bytes → LacksRoom (now s) (now (with_entries s round)) bytes
 lacks_room history s round bytes is lacks = subst (λ (h : List Entry). LacksRoom h (now (with_entries s round)) bytes) (sym is) (subst (λ (h : List Entry). LacksRoom history h bytes) (sym (now_from history s round is)) lacks)
-
--- what stands with a round
-pub spells_round : (rounds : List (List Entry)) (history : List Entry) (s : Stood) (round : List Entry) (c : List ℕ) → now s ≡ history → history_of rounds ≡ history → SpellsRounds (with_round rounds round) c → Spells (now (with_entries s round)) c
-spells_round rounds history s round c is e spelled = subst (λ (h : List Entry). Spells h c) (sym (now_from history s round is)) (spells_with rounds history round c e spelled)
-
--- what stands, or that with a round
-pub spells_either : (rounds : List (List Entry)) (history : List Entry) (s : Stood) (round : List Entry) (c : List ℕ) → now s ≡ history → history_of rounds ≡ history → SpellsEither rounds round c → Spells (now s) c ⊎ Spells (now (with_entries s round)) c
-spells_either rounds history s round c is e (inl spelled) = inl (spells_of rounds (now s) c (e ∙ sym is) spelled)
-spells_either rounds history s round c is e (inr spelled) = inr (spells_round rounds history s round c is e spelled)
 
 -- ---- one round
 
@@ -102,95 +101,91 @@ settled_round before round = record {
 
 module _ {D : Type 0} (tells : Bool) (seen : D → List ℕ) (moment : D → ℕ) (since : D → ℕ → List ℕ → Type 0) (images : D → List ℕ → Type 0) (faults : D → ℕ) where
   -- no call on the disk was made, and where a round did not fit, there was no room for it
-  pub leaves_unfit : (only_now : (disk : D) (c : List ℕ) → since disk (moment disk) c → images disk c) (history : List Entry) (before unfit : Stood) (disk : D) → now before ≡ history → IsSound history → (IsTrue tells → (c : List ℕ) → images disk c → Spells history c)
+  pub leaves_unfit : (only_now : (disk : D) (c : List ℕ) → since disk (moment disk) c → images disk c) (history : List Entry) (before unfit : Stood) (disk : D) → now before ≡ history → IsSound history
       → IsUnfit tells (unfit_after before unfit) (seen disk) → Leaves tells seen moment since images faults before (unfit_after before unfit) disk disk
-  leaves_unfit only_now history before unfit disk is sound spelled room = record {
+  leaves_unfit only_now history before unfit disk is sound room = record {
     goes_on = record { more = []; stands = no_more before; rest = []; tried = no_more before; one = omega arith };
     sound = subst IsSound (sym is) sound;
     settled = λ none. refl;
     unfit = room;
-    lasts = λ told.
-        let all : (c : List ℕ) → images disk c → Spells (now before) c = λ c image. subst (λ (h : List Entry). Spells h c) (sym is) (spelled told c image) in
-        record {
-          leaves = record {
-            later = omega arith;
-            each = λ c there. inl (all c (only_now disk c there));
-            before = λ t c early there. inl there;
-          };
-          at_end = λ c image. inl (all c image);
-          least = omega arith;
-          most = omega arith;
-        };
+    lasts = λ told found all. record {
+      leaves = record {
+        later = omega arith;
+        each = λ c there. inl (all c (only_now disk c there));
+        before = λ t c early there. inl there;
+      };
+      at_end = λ c image. inl (all c image);
+      least = omega arith;
+      most = omega arith;
+    };
   }
 
   -- no call on the disk was made, and all fitted
-  pub leaves_same : (only_now : (disk : D) (c : List ℕ) → since disk (moment disk) c → images disk c) (history : List Entry) (disk : D) → IsSound history → (IsTrue tells → (c : List ℕ) → images disk c → Spells history c)
+  pub leaves_same : (only_now : (disk : D) (c : List ℕ) → since disk (moment disk) c → images disk c) (history : List Entry) (disk : D) → IsSound history
       → FromEach history (λ s. Leaves tells seen moment since images faults s (settled s) disk disk)
-  leaves_same only_now history disk sound spelled s is = leaves_unfit only_now history s s disk is sound spelled (λ differs told. absurd (differs refl))
+  leaves_same only_now history disk sound s is = leaves_unfit only_now history s s disk is sound (λ differs told. absurd (differs refl))
 
   -- the same, as a round without entries
-  pub leaves_none : (only_now : (disk : D) (c : List ℕ) → since disk (moment disk) c → images disk c) (history : List Entry) (disk : D) → IsSound history → (IsTrue tells → (c : List ℕ) → images disk c → Spells history c)
+  pub leaves_none : (only_now : (disk : D) (c : List ℕ) → since disk (moment disk) c → images disk c) (history : List Entry) (disk : D) → IsSound history
       → FromEach history (λ s. Leaves tells seen moment since images faults s (settled (with_entries s [])) disk disk)
-  leaves_none only_now history disk sound spelled s is =
-      subst (λ (after : Stood). Leaves tells seen moment since images faults s (settled after) disk disk) (no_more s) (leaves_same only_now history disk sound spelled s is)
+  leaves_none only_now history disk sound s is =
+      subst (λ (after : Stood). Leaves tells seen moment since images faults s (settled after) disk disk) (no_more s) (leaves_same only_now history disk sound s is)
+
+  -- a disk on which a journal stands has the rounds that each image of it has
+  stands_behind : (reads : (disk : D) → IsTrue tells → images disk (seen disk)) (history : List Entry) (tail : ℕ) (found : List (List Entry)) (s : Stood) (disk : D) → IsTrue tells → AllSpell (found ++ s.rounds) (images disk)
+      → (rounds : List (List Entry)) × (history_of rounds ≡ history) × Stands rounds tail (seen disk) (images disk) → Stands (found ++ s.rounds) tail (seen disk) (images disk)
+  stands_behind reads history tail found s disk told all (rounds, is, stands) =
+      let here = reads disk told in
+      subst (λ (r : List (List Entry)). Stands r tail (seen disk) (images disk))
+      (one_spelling (seen disk) rounds (found ++ s.rounds) (image_spells rounds tail (seen disk) (images disk) (seen disk) stands here) (all (seen disk) here)) stands
 
   -- the round stands
-  pub leaves_round : (history round : List Entry) (old new : D) → IsSound (history ++ round)
-      → (IsTrue tells → (rounds : List (List Entry)) × (history_of rounds ≡ history) × LeavesOnly moment since old new (SpellsEither rounds round) × ((c : List ℕ) → images new c → SpellsRounds (with_round rounds round) c))
+  pub leaves_round : (reads : (disk : D) → IsTrue tells → images disk (seen disk)) (history round : List Entry) (tail : ℕ) (old new : D) → IsSound (history ++ round)
+      → (IsTrue tells → (rounds : List (List Entry)) × (history_of rounds ≡ history) × Stands rounds tail (seen old) (images old))
+      → (IsTrue tells → (rounds : List (List Entry)) → Stands rounds tail (seen old) (images old) → LeavesOnly moment since old new (SpellsEither rounds round))
+      → (IsTrue tells → (rounds : List (List Entry)) → Stands rounds tail (seen old) (images old) → (c : List ℕ) → images new c → SpellsRounds (with_round rounds round) c)
       → (round ≢ [] → moment new ≡ moment old + 4) → (round ≡ [] → new ≡ old) → FromEach history (λ s. Leaves tells seen moment since images faults s (settled (with_entries s round)) old new)
-  leaves_round history [] old new sound stands calls empty before is =
-      let same : moment new ≡ moment old = ap moment (empty refl) in
+  leaves_round reads history round tail old new sound stood any_moment spelled calls empty before is =
+      let count = counted round calls empty in
       record {
-        goes_on = settled_round before [];
-        sound = subst IsSound (sym (now_from history before [] is)) sound;
+        goes_on = settled_round before round;
+        sound = subst IsSound (sym (now_from history before round is)) sound;
         settled = λ none. refl;
         unfit = λ differs told. absurd (differs refl);
-        lasts = λ told.
-            let s = stands told in
+        lasts = λ told found all.
+            let stands = stands_behind reads history tail found before old told all (stood told) in
             record {
-              leaves = leaves_map moment since old new (SpellsEither s.0 []) _ (λ c. spells_either s.0 history before [] c is s.1) s.2;
-              at_end = λ c image. inl (spells_round s.0 history before [] c is s.1 (s.3 c image));
-              least = omega (arith, same, length-append before.rounds []);
-              most = omega (arith, same);
+              leaves = leaves_map moment since old new (SpellsEither (found ++ before.rounds) round) _ (λ c. spells_either found before round c) (any_moment told (found ++ before.rounds) stands);
+              at_end = λ c image. inl (spells_round found before round c (spelled told (found ++ before.rounds) stands c image));
+              least = omega (arith, count, length-append before.rounds (round_of round));
+              most = omega (arith, count, length-append before.rounds (round_of round));
             };
       }
-  leaves_round history (e ∷ es) old new sound stands calls empty before is =
-      let four : moment new ≡ moment old + 4 = calls (λ none. cc) in
-      record {
-        goes_on = settled_round before (e ∷ es);
-        sound = subst IsSound (sym (now_from history before (e ∷ es) is)) sound;
-        settled = λ none. refl;
-        unfit = λ differs told. absurd (differs refl);
-        lasts = λ told.
-            let s = stands told in
-            record {
-              leaves = leaves_map moment since old new (SpellsEither s.0 (e ∷ es)) _ (λ c. spells_either s.0 history before (e ∷ es) c is s.1) s.2;
-              at_end = λ c image. inl (spells_round s.0 history before (e ∷ es) c is s.1 (s.3 c image));
-              least = omega (arith, four, length-append before.rounds ((e ∷ es) ∷ []));
-              most = omega (arith, four, length-append before.rounds ((e ∷ es) ∷ []));
-            };
-      }
+    where
+      counted : (round : List Entry) → (round ≢ [] → moment new ≡ moment old + 4) → (round ≡ [] → new ≡ old) → moment new ≡ moment old + 4 * length (round_of round)
+      counted [] calls empty = let same = ap moment (empty refl) in omega (arith, same)
+      counted (e ∷ es) calls empty = let four = calls (λ none. cc) in omega (arith, four)
 
   -- the round failed on the disk
-  pub leaves_failed : (counts_now : (disk : D) (t : ℕ) (c : List ℕ) → t ≤ moment disk → images disk c → since disk t c) (history round : List Entry) (old new : D) → round ≢ [] → IsSound (history ++ round)
-      → (IsTrue tells → (rounds : List (List Entry)) × (history_of rounds ≡ history) × LeavesOnly moment since old new (SpellsEither rounds round))
+  pub leaves_failed : (reads : (disk : D) → IsTrue tells → images disk (seen disk)) (counts_now : (disk : D) (t : ℕ) (c : List ℕ) → t ≤ moment disk → images disk c → since disk t c) (history round : List Entry) (tail : ℕ) (old new : D) → round ≢ [] → IsSound (history ++ round)
+      → (IsTrue tells → (rounds : List (List Entry)) × (history_of rounds ≡ history) × Stands rounds tail (seen old) (images old))
+      → (IsTrue tells → (rounds : List (List Entry)) → Stands rounds tail (seen old) (images old) → LeavesOnly moment since old new (SpellsEither rounds round))
       → Rose (faults old) (faults new) → moment new ≤ moment old + 4 → FromEach history (λ s. Leaves tells seen moment since images faults s (tried_after s (with_entries s round)) old new)
-  leaves_failed counts_now history [] old new some sound stands rose most before is = absurd (some refl)
-  leaves_failed counts_now history (e ∷ es) old new some sound stands rose most before is =
-      record {
-        goes_on = record { more = []; stands = no_more before; rest = (e ∷ es) ∷ []; tried = refl; one = omega arith };
-        sound = subst IsSound (sym (now_from history before (e ∷ es) is)) sound;
-        settled = λ none. absurd (none rose);
-        unfit = λ differs told. absurd (differs refl);
-        lasts = λ told.
-            let s = stands told in
-            record {
-              leaves = leaves_map moment since old new (SpellsEither s.0 (e ∷ es)) _ (λ c. spells_either s.0 history before (e ∷ es) c is s.1) s.2;
-              at_end = λ c image. spells_either s.0 history before (e ∷ es) c is s.1 (s.2.each c (counts_now new (moment old) c s.2.later image));
-              least = omega (arith, s.2.later);
-              most = omega (arith, most, length-append before.rounds ((e ∷ es) ∷ []));
-            };
-      }
+  leaves_failed reads counts_now history [] tail old new some sound stood any_moment rose most before is = absurd (some refl)
+  leaves_failed reads counts_now history (e ∷ es) tail old new some sound stood any_moment rose most before is = record {
+    goes_on = record { more = []; stands = no_more before; rest = (e ∷ es) ∷ []; tried = refl; one = omega arith };
+    sound = subst IsSound (sym (now_from history before (e ∷ es) is)) sound;
+    settled = λ none. absurd (none rose);
+    unfit = λ differs told. absurd (differs refl);
+    lasts = λ told found all.
+        let leaves = any_moment told (found ++ before.rounds) (stands_behind reads history tail found before old told all (stood told)) in
+        record {
+          leaves = leaves_map moment since old new (SpellsEither (found ++ before.rounds) (e ∷ es)) _ (λ c. spells_either found before (e ∷ es) c) leaves;
+          at_end = λ c image. spells_either found before (e ∷ es) c (leaves.each c (counts_now new (moment old) c leaves.later image));
+          least = omega (arith, leaves.later);
+          most = omega (arith, most, length-append before.rounds ((e ∷ es) ∷ []));
+        };
+  }
 
 -- ---- desks
 
@@ -208,34 +203,32 @@ module _ {D : Type 0} (tells : Bool) (seen : D → List ℕ) (images : D → Lis
   pub ready_behind : (desk : DeskValue) (before round : List Entry) (tail : ℕ) (old new : D) → IsWhole desk.wallet (before ++ round)
       → (IsTrue tells → (rounds : List (List Entry)) × (history_of rounds ≡ before) × Stands rounds tail (seen old) (images old))
       → (IsTrue tells → (rounds : List (List Entry)) → Stands rounds tail (seen old) (images old) → Stands (with_round rounds round) desk.tail (seen new) (images new))
-      → (IsTrue tells → (rounds : List (List Entry)) → Stands rounds tail (seen old) (images old) → (c : List ℕ) → images new c → SpellsRounds (with_round rounds round) c)
       → IsReady tells desk (seen new) (images new)
-  ready_behind desk before round tail old new whole stood stands spelled = record {
+  ready_behind desk before round tail old new whole stood stands = record {
     whole = whole_some desk.wallet (before ++ round) whole;
     stands = λ told.
         let s = stood told in
         (with_round s.0 round, history_with s.0 round ∙ (ap (λ (h : List Entry). h ++ round) s.1 ∙ sym (whole_is desk (before ++ round) whole)), stands told s.0 s.2);
-    spelled = λ told c image.
-        let s = stood told in
-        subst (λ (h : List Entry). Spells h c) (sym (whole_is desk (before ++ round) whole)) (spells_with s.0 before round c s.1 (spelled told s.0 s.2 c image));
   }
 
 -- ---- one more round
 
-module _ {D : Type 0} (moment : D → ℕ) (since : D → ℕ → List ℕ → Type 0) (images : D → List ℕ → Type 0) (only_now : (disk : D) (c : List ℕ) → since disk (moment disk) c → images disk c) where
-  longer_left : (least : ℕ) (before : Stood) (final : Final) (c : List ℕ) → GoesOn before final → SpellsAtLeast least before c → SpellsAtLeast least final.tried c
+module _ {D : Type 0} (moment : D → ℕ) (since : D → ℕ → List ℕ → Type 0) (images : D → List ℕ → Type 0) (only_now : (disk : D) (c : List ℕ) → since disk (moment disk) c → images disk c) (found : List (List Entry)) where
+  -- the rounds that are tried are those before, and then more
+  tried_rounds : (before : Stood) (final : Final) (goes : GoesOn before final) → final.tried.rounds ≡ before.rounds ++ (goes.more ++ goes.rest)
+  tried_rounds before final goes = ap (λ (h : Stood). h.rounds) goes.tried ∙ (ap (λ (h : Stood). h.rounds ++ goes.rest) goes.stands ∙ append_assoc before.rounds goes.more goes.rest)
+
+  longer_left : (least : ℕ) (before : Stood) (final : Final) (c : List ℕ) → GoesOn before final → SpellsAtLeast least found before.rounds c → SpellsAtLeast least found final.tried.rounds c
   longer_left least before final c goes s =
-      subst (λ (h : Stood). SpellsAtLeast least h c)
-      (ap (with_list before) (sym (append_assoc before.rounds goes.more goes.rest)) ∙ (ap (λ (h : Stood). with_rounds h goes.rest) (sym goes.stands) ∙ sym goes.tried))
-      (spells_longer least before (goes.more ++ goes.rest) c s)
+      subst (λ (rounds : List (List Entry)). SpellsAtLeast least found rounds c) (sym (tried_rounds before final goes)) (spells_longer least found before.rounds (goes.more ++ goes.rest) c s)
 
   -- what a round leaves is at least what stood before it
-  left_at_least : (least : ℕ) (before : Stood) (final : Final) (c : List ℕ) → least ≤ length before.rounds → GoesOn before final → Spells (now before) c ⊎ Spells (now final.tried) c → SpellsAtLeast least final.tried c
-  left_at_least least before final c enough goes (inl s) = longer_left least before final c goes (spells_all least before c enough s)
+  left_at_least : (least : ℕ) (before : Stood) (final : Final) (c : List ℕ) → least ≤ length before.rounds → GoesOn before final → SpellsRounds (found ++ before.rounds) c ⊎ SpellsRounds (found ++ final.tried.rounds) c → SpellsAtLeast least found final.tried.rounds c
+  left_at_least least before final c enough goes (inl s) = longer_left least before final c goes (spells_all least found before.rounds c enough s)
   left_at_least least before final c enough goes (inr s) =
-      spells_all least final.tried c (omega (arith, enough, ap (λ (h : Stood). length h.rounds) goes.tried, ap (λ (h : Stood). length h.rounds) goes.stands, length-append final.stands.rounds goes.rest, length-append before.rounds goes.more)) s
+      spells_all least found final.tried.rounds c (omega (arith, enough, ap length (tried_rounds before final goes), length-append before.rounds (goes.more ++ goes.rest))) s
 
-  pub endures_more : (before : Stood) (final : Final) (opened old new : D) → Endures moment since (settled before) opened old → GoesOn before final → Lasts moment since images before final old new → Endures moment since final opened new
+  pub endures_more : (before : Stood) (final : Final) (opened old new : D) → Endures moment since images found (settled before) opened old → GoesOn before final → Lasts moment since images found before final old new → Endures moment since images found final opened new
   endures_more before final opened old new stood goes lasts =
       let s = ap (λ (h : Stood). length h.rounds) goes.stands in
       let sl = length-append before.rounds goes.more in
@@ -255,8 +248,8 @@ module _ {D : Type 0} (moment : D → ℕ) (since : D → ℕ → List ℕ → T
               let late : length before.rounds < k = leb-false k (length before.rounds) after in
               let at_end : moment opened + 4 * k ≡ moment new = omega (arith, late, within, stood.least, stood.most, lasts.least, lasts.most, s, sl, t, tl, one, ol) in
               elim (lasts.at_end c (only_now new c (subst (λ (m : ℕ). since new m c) at_end there))) [
-                | inl stands ↦ subst (λ (h : Stood). SpellsAtLeast k h c) (sym goes.tried) (spells_longer k final.stands goes.rest c (spells_all k final.stands c within stands))
-                | inr tried ↦ spells_all k final.tried c (omega (arith, within, t, tl)) tried
+                | inl stands ↦ subst (λ (h : Stood). SpellsAtLeast k found h.rounds c) (sym goes.tried) (spells_longer k found final.stands.rounds goes.rest c (spells_all k found final.stands.rounds c within stands))
+                | inr tried ↦ spells_all k found final.tried.rounds c (omega (arith, within, t, tl)) tried
               ]
         ];
         before = λ m c early there. elim (lasts.leaves.before m c (omega (arith, early, stood.least)) there) [
@@ -266,9 +259,15 @@ module _ {D : Type 0} (moment : D → ℕ) (since : D → ℕ → List ℕ → T
           ]
           | inr now ↦ inr (left_at_least 0 before final c (omega arith) goes now)
         ];
+        at_end = lasts.at_end;
         least = omega (arith, stood.least, lasts.least, s, sl);
         most = omega (arith, stood.most, lasts.most, s, sl, t, tl);
       }
+
+-- where no commit failed, each image has what stands
+settled_end : (found : List (List Entry)) (s : Stood) (c : List ℕ) → SpellsEnd found (settled s) c → SpellsRounds (found ++ s.rounds) c
+settled_end found s c (inl spelled) = spelled
+settled_end found s c (inr spelled) = spelled
 
 module _ {D : Type 0} (tells : Bool) (seen : D → List ℕ) (moment : D → ℕ) (since : D → ℕ → List ℕ → Type 0) (images : D → List ℕ → Type 0) (faults : D → ℕ) (only_now : (disk : D) (c : List ℕ) → since disk (moment disk) c → images disk c) where
   -- a session goes on by a turn
@@ -280,27 +279,28 @@ module _ {D : Type 0} (tells : Bool) (seen : D → List ℕ) (moment : D → ℕ
     sound = leaves.sound;
     unfit = leaves.unfit;
     settled = λ none. leaves.settled (λ rose. none (subst (λ (n : ℕ). Rose n (faults new)) calm rose));
-    endures = λ told. endures_more moment since images only_now before final opened old new (kept.endures told) leaves.goes_on (leaves.lasts told);
-    at_exit = λ told. (leaves.lasts told).at_end;
+    endures = λ told found all.
+        let stood = kept.endures told found all in
+        endures_more moment since images only_now found before final opened old new stood leaves.goes_on (leaves.lasts told found (λ c image. settled_end found before c (stood.at_end c image)));
   }
 
   -- a session begins
-  pub kept_first : (first : List Entry) (opened : D) → IsSound first → (IsTrue tells → (c : List ℕ) → images opened c → Spells first c) → Kept tells seen moment since images faults first (settled (opened_with first)) opened opened
-  kept_first first opened sound spelled =
-      let all : IsTrue tells → (c : List ℕ) → images opened c → Spells (now (opened_with first)) c = λ told c image. subst (λ (h : List Entry). Spells h c) (sym (now_opened first)) (spelled told c image) in
-      record {
-        begins = refl;
-        tried = ([], refl);
-        sound = subst IsSound (sym (now_opened first)) sound;
-        settled = λ none. refl;
-        unfit = λ differs told. absurd (differs refl);
-        endures = λ told. record {
+  pub kept_first : (first : List Entry) (opened : D) → IsSound first → Kept tells seen moment since images faults first (settled (opened_with first)) opened opened
+  kept_first first opened sound = record {
+    begins = refl;
+    tried = ([], refl);
+    sound = subst IsSound (sym (now_opened first)) sound;
+    settled = λ none. refl;
+    unfit = λ differs told. absurd (differs refl);
+    endures = λ told found all.
+        let spelled : (c : List ℕ) → images opened c → SpellsRounds (found ++ []) c = λ c image. subst (λ (rounds : List (List Entry)). SpellsRounds rounds c) (sym (append-nil found)) (all c image) in
+        record {
           each = λ k c within there.
               let none : k ≡ 0 = omega (arith, within) in
-              spells_all k (opened_with first) c within (all told c (only_now opened c (subst (λ (m : ℕ). since opened m c) (omega (arith, none)) there)));
+              spells_all k found [] c within (spelled c (only_now opened c (subst (λ (m : ℕ). since opened m c) (omega (arith, none)) there)));
           before = λ m c early there. inl there;
+          at_end = λ c image. inl (spelled c image);
           least = omega arith;
           most = omega arith;
         };
-        at_exit = λ told c image. inl (all told c image);
-      }
+  }

@@ -6,7 +6,7 @@ use Rattle.std.specs.Io.KnownBytes.{Consumes, Appends, Keeps}
 use Rattle.op_model.specs.Printed.{printed}
 use Rattle.op_session.specs.Program.{code_of}
 use Rattle.op_model.specs.Requests.{IsEnded}
-use Rattle.op_model.specs.Round.{refusal_reply}
+use Rattle.op_model.specs.Round.{FeesAllowed, refusal_reply}
 use Rattle.op_session.specs.Session.{Final, Session, begun, texts, replies, IsComplete, IsRefusal}
 use Rattle.op_session.specs.Stood.{Stood, now}
 use Rattle.op_session.specs.Turn.{Standing, Turn, Run}
@@ -43,8 +43,8 @@ record IsRead (first : Standing) (turns : List Turn) (last : Standing) (bytes ol
   at : last.at ≡ first.at + length (texts turns)
   count : last.answered ≡ first.answered + length turns
 
-run_reads : (turns : List Turn) (first last : Standing) (bytes old : List ℕ) → Run first turns last → first.world.left ≡ Some bytes → first.world.written ≡ Some old → IsRead first turns last bytes old
-run_reads [] first last bytes old run l w = record {
+run_reads : (allows : FeesAllowed) (turns : List Turn) (first last : Standing) (bytes old : List ℕ) → Run allows first turns last → first.world.left ≡ Some bytes → first.world.written ≡ Some old → IsRead first turns last bytes old
+run_reads allows [] first last bytes old run l w = record {
   rest = bytes;
   left = ap (λ s. s.world.left) run ∙ l;
   read = refl;
@@ -52,10 +52,10 @@ run_reads [] first last bytes old run l w = record {
   at = omega (arith, ap (λ s. s.at) run);
   count = omega (arith, ap (λ s. s.answered) run);
 }
-run_reads (turn ∷ turns) first last bytes old (mid, is, run) l w =
+run_reads allows (turn ∷ turns) first last bytes old (mid, is, run) l w =
     let read = consumes_told first.world.left mid.world.left turn.text bytes l is.begun.read in
     let wrote = appends_told first.world.written mid.world.written (printed turn.reply) old w is.written in
-    let more = run_reads turns mid last read.0 (old ++ printed turn.reply) run read.1 wrote in
+    let more = run_reads allows turns mid last read.0 (old ++ printed turn.reply) run read.1 wrote in
     record {
       rest = more.rest;
       left = more.left;
@@ -75,10 +75,10 @@ nothing_behind new old replied e = e ∙ ap (λ (k : List ℕ). Some (old ++ k))
 
 -- ---- a whole session
 
-module _ (before after : World) (first : List Entry) (final : Final) where
-  pub complete : (end : End) (s : Session (begun first before) after end final) (bytes old : List ℕ) → before.left ≡ Some bytes → before.written ≡ Some old → IsComplete end s.turns final bytes old after.written
+module _ (allows : FeesAllowed) (before after : World) (first : List Entry) (final : Final) where
+  pub complete : (end : End) (s : Session allows (begun first before) after end final) (bytes old : List ℕ) → before.left ≡ Some bytes → before.written ≡ Some old → IsComplete end s.turns final bytes old after.written
   complete ends.Done s bytes old l w =
-      let r = run_reads s.turns (begun first before) s.last bytes old s.run l w in
+      let r = run_reads allows s.turns (begun first before) s.last bytes old s.run l w in
       let cause = s.ends.cause in
       let end = consumes_told s.last.world.left after.left s.ends.since.held r.rest r.left s.ends.read in
       let empty : end.0 ≡ [] = rw end.1 at cause.2 in (
@@ -90,7 +90,7 @@ module _ (before after : World) (first : List Entry) (final : Final) where
         },
       )
   complete ends.Malformed s bytes old l w =
-      let r = run_reads s.turns (begun first before) s.last bytes old s.run l w in
+      let r = run_reads allows s.turns (begun first before) s.last bytes old s.run l w in
       let cause = s.ends.cause in
       let refusal : Refusal = cause.0 in
       let at : s.last.at ≡ length (texts s.turns) = omega (arith, r.at) in
@@ -106,7 +106,7 @@ module _ (before after : World) (first : List Entry) (final : Final) where
         },
       )
   complete ends.TurnLimit s bytes old l w =
-      let r = run_reads s.turns (begun first before) s.last bytes old s.run l w in
+      let r = run_reads allows s.turns (begun first before) s.last bytes old s.run l w in
       let cause = s.ends.cause in (
         r.rest,
         omega (arith, r.count, cause.0),

@@ -10,6 +10,7 @@ ghost use Rattle.op_http.specs.Places.{place_of_row};
 ghost use Rattle.op_http.specs.Routes.{IsAsked};
 
 use crate::route::RouteFault;
+use http::Method;
 use matchit::{InsertError, Router};
 use op_model::{Methods, Operation, Text};
 use op_names::{NameFault, read_path};
@@ -301,13 +302,13 @@ fn methods_of(alloc: Global, table: &[Row], path: &str) -> Result<Option<Methods
 fn operation_at(methods: Methods, method: &[u8]) -> Option<Operation>
     ensures { result ≡ operation_at methods method.now }
 {
-    if method == b"DELETE".as_slice() {
+    if method == Method::DELETE.as_str().as_bytes() {
         return methods.delete;
     }
-    if method == b"GET".as_slice() {
+    if method == Method::GET.as_str().as_bytes() {
         return methods.get;
     }
-    if method == b"POST".as_slice() {
+    if method == Method::POST.as_str().as_bytes() {
         return methods.post;
     }
     None

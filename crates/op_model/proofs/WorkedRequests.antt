@@ -2,7 +2,7 @@
 use Rattle.std.proofs.Common.{◌≡◌, ℕ, List, [], ◌∷◌, codes, Some, None, Err, false, refl}
 use Rattle.op_names.specs.declared.Kind.TheVariants.{Grant}
 use Rattle.op_model.specs.GrantMembers.{ask_grant_members, grant_refused, actions_in, access_in, interact_in, is_reference}
-use Rattle.op_model.specs.Parameters.{row_at, asset_at, parameter, digits_within}
+use Rattle.op_model.specs.Parameters.{number_named, asset_named, parameter, digits_within}
 use Rattle.op_model.specs.declared.grant.Interact.TheVariants.{Missing, NoRedirect, Redirect}
 use Rattle.op_model.specs.declared.reply.Refusal.TheVariants.{InvalidRequest}
 use Rattle.form_urlencoded.specs.Form.{raw_pairs, split}
@@ -13,18 +13,18 @@ use Rattle.serde_json.specs.Data.{Data, null, string, array, object, no_items, i
 
 -- ---- paths and queries
 
-number_in_path : row_at Grant 1 (codes "/continue/00000004-0000-8000-8000-000000000003?x=1") ≡ Some 3
+number_in_path : number_named Grant (codes "00000004-0000-8000-8000-000000000003") ≡ Some 3
 unfolding hex_of encode_with
 number_in_path = refl
 
-other_kind_in_path : row_at Grant 1 (codes "/continue/00000001-0000-8000-8000-000000000003") ≡ None
+other_kind_in_path : number_named Grant (codes "00000001-0000-8000-8000-000000000003") ≡ None
 unfolding hex_of encode_with
 other_kind_in_path = refl
 
-asset_in_path : asset_at (codes "/admin/assets/USD/2") ≡ Some (record { code = codes "USD"; scale = 2 })
+asset_in_path : asset_named (codes "USD") (codes "2") ≡ Some (record { code = codes "USD"; scale = 2 })
 asset_in_path = refl
 
-scale_with_zero_in_path : asset_at (codes "/admin/assets/USD/02") ≡ None
+scale_with_zero_in_path : asset_named (codes "USD") (codes "02") ≡ None
 scale_with_zero_in_path = refl
 
 decoded_parameter : parameter (codes "wallet-address") (codes "/incoming-payments?first=1&wallet-address=https%3A%2F%2Fwallet.example%2Fshop+1&wallet-address=x") ≡ Some (codes "https://wallet.example/shop 1")

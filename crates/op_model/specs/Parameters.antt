@@ -17,19 +17,16 @@ use Rattle.op_names.specs.declared.Kind.{Kind}
 use Rattle.op_model.specs.Asking.{◌>>=◌}
 use Rattle.op_model.specs.Json.{if_within, or_bad}
 use Rattle.op_model.specs.Metadata.{is_page}
-use Rattle.op_model.specs.RouteTable.{is_question, path_of, segment}
+use Rattle.op_model.specs.RouteTable.{is_question}
 use Rattle.op_model.specs.declared.reply.Refusal.{Refusal}
 use Rattle.op_model.specs.declared.request.Request.{Request}
 use Rattle.op_model.specs.declared.request.Request.TheVariants as requests
 
 -- ---- paths
 
--- the number of the row of a kind that a segment of the path names
+-- the number of the row of a kind that a text names
 abbrev pub number_named : Kind → List ℕ → Option ℕ
 number_named kind text = option_map (λ id. id.number) (option_and_then (of_kind kind) (id_in text))
-
-abbrev pub row_at : Kind → ℕ → List ℕ → Option ℕ
-row_at kind place target = number_named kind (segment place (path_of target))
 
 -- a number without a leading zero, within bounds
 abbrev pub digits_within : (low high : ℕ) → List ℕ → Option ℕ
@@ -39,8 +36,8 @@ digits_within low high text = option_and_then (if_within low high) (result_ok (v
 abbrev pub asset_with : List ℕ → ℕ → Option Asset
 asset_with code scale = if is_asset_code code then Some (record { code = code; scale = scale }) else None
 
-abbrev pub asset_at : List ℕ → Option Asset
-asset_at target = option_and_then (asset_with (segment 2 (path_of target))) (digits_within 0 18 (segment 3 (path_of target)))
+abbrev pub asset_named : (code scale : List ℕ) → Option Asset
+asset_named code scale = option_and_then (asset_with code) (digits_within 0 18 scale)
 
 -- ---- queries (RFC 3986, section 3.4)
 

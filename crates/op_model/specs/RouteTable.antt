@@ -1,100 +1,22 @@
 -- Routes: which methods and paths are served, and what each asks for (Open Payments, "Resource server API" and
--- "Authorization server API"; the paths below `/admin` are this project's own). Paths are looked up as `matchit` does.
-use Rattle.std.specs.Prelude.{ℕ, zero, suc, Bool, ◌+◌, ◌==◌, List, [], ◌∷◌, ◌++◌, codes, Some, None, Ok, Err, if◌then◌else◌, option_and_then}
-use Rattle.std.specs.List.{before_first, after_first, slice_get}
+-- "Authorization server API"; the paths below `/admin` are this project's own).
+use Rattle.std.specs.Prelude.{ℕ, Bool, ◌==◌, ◌&&◌, nat_lt, nat_eq, if◌then◌else◌, List, [], ◌∷◌, ◌++◌, length, map, filter, codes, Some, None, Ok, Err}
+use Rattle.std.specs.List.{before_first, slice_split, starts_with}
+use Rattle.std.specs.Option.{option_or, is_some}
 use Rattle.std.specs.Str.{bytes_eq, is_utf8}
 use Rattle.std.specs.declared.option.Option.{Option}
 use Rattle.std.specs.declared.result.Result.{Result}
-use Rattle.matchit.specs.Rows.{RowsOf}
-use Rattle.matchit.specs.Route.{Scan, parse_route}
-use Rattle.matchit.specs.Router.{RouteOf, route_from, map_key}
-use Rattle.matchit.specs.Order.{placed}
-use Rattle.matchit.specs.Seek.{first}
-use Rattle.matchit.specs.declared.error.InsertError.{InsertError}
 use Rattle.op_names.specs.Forms.{is_slash, is_path}
-use Rattle.op_model.specs.declared.operation.Methods.{Methods}
-use Rattle.op_model.specs.declared.operation.Operation.{Operation}
-use Rattle.op_model.specs.declared.operation.Operation.TheVariants.{SetOrigin, AddAsset, InspectAsset, AddAddress, InspectAddress, Deposit, Withdraw, SetRate, AcceptGrant, RejectGrant, InspectOutgoing, CancelOutgoing, ReadAddress, AskGrant, ContinueGrant, CancelGrant, RotateToken, RevokeToken, MakeIncoming, ListIncomings, ReadIncoming, CompleteIncoming, MakeQuote, ReadQuote, MakeOutgoing, ListOutgoings, ReadOutgoing, ReadFeed}
+use Rattle.op_model.specs.declared.route.Route as declared
+use Rattle.op_model.specs.declared.route.Route.TheVariants.{SetOrigin, AddAsset, InspectAsset, AddAddress, InspectAddress, Deposit, Withdraw, SetRate, AcceptGrant, RejectGrant, InspectOutgoing, CancelOutgoing, ReadAddress, AskGrant, ContinueGrant, CancelGrant, RotateToken, RevokeToken, MakeIncoming, ListIncomings, ReadIncoming, CompleteIncoming, MakeQuote, ReadQuote, MakeOutgoing, ListOutgoings, ReadOutgoing, ReadFeed}
 use Rattle.op_model.specs.declared.reply.Refusal.{Refusal}
 use Rattle.op_model.specs.declared.reply.Refusal.TheVariants.{NotFound, MethodNotAllowed}
 
--- ---- the table
+-- a route with the texts of its path's parameters
+abbrev pub Route : Type 0
+Route = declared.Route (List ℕ)
 
--- a path, and what its methods ask for
-pub record Place : Type 0 where
-  pub path : List ℕ
-  pub methods : Methods
-
-abbrev pub at : List ℕ → (delete get post : Option Operation) → Place
-at path delete get post = record { path = path; methods = record { delete = delete; get = get; post = post } }
-
--- each path, and what DELETE, GET and POST ask for there; `{..}` stands for one segment
-unfoldable pub places : List Place
-places =
-    at (codes "/admin/origin") None None (Some SetOrigin)
-    ∷ at (codes "/admin/assets") None None (Some AddAsset)
-    ∷ at (codes "/admin/assets/{code}/{scale}") None (Some InspectAsset) None
-    ∷ at (codes "/admin/wallet-addresses") None None (Some AddAddress)
-    ∷ at (codes "/admin/wallet-addresses/{id}") None (Some InspectAddress) None
-    ∷ at (codes "/admin/deposits") None None (Some Deposit)
-    ∷ at (codes "/admin/withdrawals") None None (Some Withdraw)
-    ∷ at (codes "/admin/rates") None None (Some SetRate)
-    ∷ at (codes "/admin/interactions/{id}/accept") None None (Some AcceptGrant)
-    ∷ at (codes "/admin/interactions/{id}/reject") None None (Some RejectGrant)
-    ∷ at (codes "/admin/outgoing-payments/{id}") None (Some InspectOutgoing) None
-    ∷ at (codes "/admin/outgoing-payments/{id}/cancel") None None (Some CancelOutgoing)
-    ∷ at (codes "/grant") None None (Some AskGrant)
-    ∷ at (codes "/continue/{id}") (Some CancelGrant) None (Some ContinueGrant)
-    ∷ at (codes "/token/{id}") (Some RevokeToken) None (Some RotateToken)
-    ∷ at (codes "/incoming-payments") None (Some ListIncomings) (Some MakeIncoming)
-    ∷ at (codes "/incoming-payments/{id}") None (Some ReadIncoming) None
-    ∷ at (codes "/incoming-payments/{id}/complete") None None (Some CompleteIncoming)
-    ∷ at (codes "/quotes") None None (Some MakeQuote)
-    ∷ at (codes "/quotes/{id}") None (Some ReadQuote) None
-    ∷ at (codes "/outgoing-payments") None (Some ListOutgoings) (Some MakeOutgoing)
-    ∷ at (codes "/outgoing-payments/{id}") None (Some ReadOutgoing) None
-    ∷ at (codes "/monetization") None (Some ReadFeed) None
-    ∷ []
-
--- an address path
-abbrev pub address_methods : Methods
-address_methods = record { delete = None; get = Some ReadAddress; post = None }
-
--- ---- looking a path up
-
--- a router's rows, each with the number of its place
-abbrev pub Table : Type 0
-Table = RowsOf (RouteOf ℕ)
-
-abbrev pub with_scan : Result Scan InsertError → ℕ → Table → Table
-with_scan (Ok scan) number rows = placed (scan.pattern, route_from scan number) rows
-with_scan (Err e) number rows = rows
-
--- the rows with one more
-unfoldable pub with_route : Table → List ℕ → ℕ → Table
-with_route rows path number = with_scan (parse_route path) number rows
-
--- the rows of these places, the first of which has this number
-abbrev pub rows_from : ℕ → Table → List Place → Table
-rows_from number rows [] = rows
-rows_from number rows (place ∷ others) = rows_from (number + 1) (with_route rows place.path number) others
-
-unfoldable pub table : Table
-table = rows_from 0 [] places
-
--- the place in the table that fits a path
-abbrev pub place_of : List ℕ → Option Place
-place_of path = option_and_then (λ number. slice_get places number) (map_key (λ route. route.value) (first table path))
-
--- the methods of a place, or those of an address path
-abbrev pub methods_at : List ℕ → Option Place → Option Methods
-methods_at path (Some place) = Some place.methods
-methods_at path None = if is_path path then Some address_methods else None
-
-abbrev pub methods_of : List ℕ → Option Methods
-methods_of path = if is_utf8 path then methods_at path (place_of path) else None
-
--- ---- what a request asks for
+-- ---- paths
 
 -- the path is the target up to its first `?` (RFC 3986, section 3.3)
 abbrev pub is_question : ℕ → Bool
@@ -103,41 +25,120 @@ is_question b = b == 63
 abbrev pub path_of : List ℕ → List ℕ
 path_of target = before_first is_question target
 
--- a segment of a path; that of number 0 stands behind the first slash
-abbrev pub segment_from : ℕ → List ℕ → List ℕ
-segment_from zero rest = before_first is_slash rest
-segment_from (suc number) rest = segment_from number (after_first is_slash rest)
+-- a path's segments: what stands between its slashes; a path that does not begin with a slash has none
+abbrev pub segments : List ℕ → List (List ℕ)
+segments [] = []
+segments (b ∷ rest) = if is_slash b then slice_split is_slash rest else []
 
-abbrev pub segment : ℕ → List ℕ → List ℕ
-segment number path = segment_from number (after_first is_slash path)
+-- what a row of the table has for a segment: a text, or a parameter, which stands for any text but the empty one
+pub data Part : Type 0 where
+  Fixed : List ℕ → Part
+  Parameter : Part
 
-abbrev pub operation_at : Methods → List ℕ → Option Operation
-operation_at methods method =
-    if bytes_eq method (codes "DELETE") then methods.delete
-    else (if bytes_eq method (codes "GET") then methods.get
-    else (if bytes_eq method (codes "POST") then methods.post else None))
+-- a segment in braces is a parameter
+abbrev pub part_of : List ℕ → Part
+part_of segment = if starts_with nat_eq segment (codes "{") then Parameter else Fixed segment
 
--- the methods that are there, in ascending order and joined by `, ` (RFC 9110, section 10.2.1)
-abbrev pub named : List ℕ → Option Operation → List (List ℕ)
-named name (Some operation) = name ∷ []
-named name None = []
+abbrev pub parts_of : List ℕ → List Part
+parts_of path = map part_of (segments path)
 
+-- ---- the table
+
+-- a route that waits for the texts of the parameters
+abbrev pub Awaiting : List Part → Type 0
+Awaiting [] = Route
+Awaiting (Fixed text ∷ parts) = Awaiting parts
+Awaiting (Parameter ∷ parts) = List ℕ → Awaiting parts
+
+pub record Row : Type 0 where
+  pub method : List ℕ
+  pub parts : List Part
+  pub route : Awaiting parts
+
+abbrev pub on : List ℕ → (path : List ℕ) → Awaiting (parts_of path) → Row
+on method path route = record { method = method; parts = parts_of path; route = route }
+
+abbrev pub delete : List ℕ
+delete = codes "DELETE"
+
+abbrev pub get : List ℕ
+get = codes "GET"
+
+abbrev pub post : List ℕ
+post = codes "POST"
+
+unfoldable pub rows : List Row
+rows =
+    on post (codes "/admin/origin") SetOrigin
+    ∷ on post (codes "/admin/assets") AddAsset
+    ∷ on get (codes "/admin/assets/{code}/{scale}") InspectAsset
+    ∷ on post (codes "/admin/wallet-addresses") AddAddress
+    ∷ on get (codes "/admin/wallet-addresses/{id}") InspectAddress
+    ∷ on post (codes "/admin/deposits") Deposit
+    ∷ on post (codes "/admin/withdrawals") Withdraw
+    ∷ on post (codes "/admin/rates") SetRate
+    ∷ on post (codes "/admin/interactions/{id}/accept") AcceptGrant
+    ∷ on post (codes "/admin/interactions/{id}/reject") RejectGrant
+    ∷ on get (codes "/admin/outgoing-payments/{id}") InspectOutgoing
+    ∷ on post (codes "/admin/outgoing-payments/{id}/cancel") CancelOutgoing
+    ∷ on post (codes "/grant") AskGrant
+    ∷ on post (codes "/continue/{id}") ContinueGrant
+    ∷ on delete (codes "/continue/{id}") CancelGrant
+    ∷ on post (codes "/token/{id}") RotateToken
+    ∷ on delete (codes "/token/{id}") RevokeToken
+    ∷ on post (codes "/incoming-payments") MakeIncoming
+    ∷ on get (codes "/incoming-payments") ListIncomings
+    ∷ on get (codes "/incoming-payments/{id}") ReadIncoming
+    ∷ on post (codes "/incoming-payments/{id}/complete") CompleteIncoming
+    ∷ on post (codes "/quotes") MakeQuote
+    ∷ on get (codes "/quotes/{id}") ReadQuote
+    ∷ on post (codes "/outgoing-payments") MakeOutgoing
+    ∷ on get (codes "/outgoing-payments") ListOutgoings
+    ∷ on get (codes "/outgoing-payments/{id}") ReadOutgoing
+    ∷ on get (codes "/monetization") ReadFeed
+    ∷ []
+
+-- ---- looking a route up
+
+-- the route of a row whose parts fit these segments, one by one
+abbrev pub matched : (parts : List Part) → Awaiting parts → List (List ℕ) → Option Route
+matched [] route [] = Some route
+matched [] route (segment ∷ others) = None
+matched (part ∷ parts) route [] = None
+matched (Fixed text ∷ parts) route (segment ∷ others) = if bytes_eq segment text then matched parts route others else None
+matched (Parameter ∷ parts) route (segment ∷ others) = if nat_lt 0 (length segment) then matched parts (route segment) others else None
+
+-- the route of the first row that has the method and fits the path
+abbrev pub route_in : List Row → (method path : List ℕ) → Option Route
+route_in [] method path = None
+route_in (row ∷ others) method path =
+    option_or (if bytes_eq method row.method then matched row.parts row.route (segments path) else None) (route_in others method path)
+
+-- a wallet address is read at its own path
+abbrev pub address_route : (method path : List ℕ) → Option Route
+address_route method path = if bytes_eq method get && is_path path then Some (ReadAddress path) else None
+
+-- a path that is not UTF-8 has no route
+abbrev pub route_at : (method path : List ℕ) → Option Route
+route_at method path = if is_utf8 path then option_or (route_in rows method path) (address_route method path) else None
+
+-- the methods that a path has a route for, in ascending order
+abbrev pub methods_at : List ℕ → List (List ℕ)
+methods_at path = filter (λ method. is_some (route_at method path)) (delete ∷ get ∷ post ∷ [])
+
+-- ---- what a request asks for
+
+-- joined by `, ` (RFC 9110, section 10.2.1)
 abbrev pub joined : List (List ℕ) → List ℕ
 joined [] = []
 joined (name ∷ []) = name
 joined (name ∷ (other ∷ names)) = name ++ codes ", " ++ joined (other ∷ names)
 
-abbrev pub allowed : Methods → List ℕ
-allowed methods = joined (named (codes "DELETE") methods.delete ++ named (codes "GET") methods.get ++ named (codes "POST") methods.post)
+-- a route; or no path like that (RFC 9110, section 15.5.5), or none with that method (section 15.5.6)
+abbrev pub route_or_refusal : Option Route → List (List ℕ) → Result Route Refusal
+route_or_refusal (Some route) methods = Ok route
+route_or_refusal None [] = Err NotFound
+route_or_refusal None (method ∷ others) = Err (MethodNotAllowed (joined (method ∷ others)))
 
--- what the method asks for there: an operation, or what is wrong
-abbrev pub asked_at : List ℕ → Option Methods → Result Operation Refusal
-asked_at method None = Err NotFound
-asked_at method (Some methods) = or_not_allowed (operation_at methods method)
-  where
-    or_not_allowed : Option Operation → Result Operation Refusal
-    or_not_allowed (Some operation) = Ok operation
-    or_not_allowed None = Err (MethodNotAllowed (allowed methods))
-
-abbrev pub operation_of : (method target : List ℕ) → Result Operation Refusal
-operation_of method target = asked_at method (methods_of (path_of target))
+abbrev pub route_of : (method target : List ℕ) → Result Route Refusal
+route_of method target = route_or_refusal (route_at method (path_of target)) (methods_at (path_of target))

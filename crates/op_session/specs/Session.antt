@@ -8,7 +8,7 @@ use Rattle.op_ports.specs.Sink.{AppendsFront}
 use Rattle.op_ports.specs.Words.{DrawsKnown}
 use Rattle.op_model.specs.Printed.{printed}
 use Rattle.op_model.specs.Requests.{IsWholeRequest, IsEnded, IsBadHttp, IsLengthRequired, IsTooLarge, BeginsWithNoRequest, Raw}
-use Rattle.op_model.specs.Round.{refusal_reply}
+use Rattle.op_model.specs.Round.{FeesAllowed, refusal_reply}
 use Rattle.op_session.specs.Stood.{Stood, now, opened_with}
 use Rattle.op_session.specs.Turn.{Standing, Turn, Begins, Run, turn_limit}
 use Rattle.op_session.specs.World.{World}
@@ -58,8 +58,8 @@ pub record IsIdle (last : Standing) (after : World) (since : Since) (final : Fin
   pub same : final ≡ settled last.stood
 
 -- a further request was read and answered
-pub record AnswersOne (last : Standing) (turn : Turn) (mid : Standing) (since : Since) : Type 0 where
-  pub begun : Begins last turn mid
+pub record AnswersOne (allows : FeesAllowed) (last : Standing) (turn : Turn) (mid : Standing) (since : Since) : Type 0 where
+  pub begun : Begins allows last turn mid
   -- what was read behind it
   pub more : List ℕ
   pub read : since.held ≡ turn.text ++ more
@@ -67,25 +67,25 @@ pub record AnswersOne (last : Standing) (turn : Turn) (mid : Standing) (since : 
   pub drawn : since.drawn ≡ turn.word ∷ []
 
 -- some of its reply was written; its act stands
-abbrev pub CutsReply : Standing → World → Since → Final → Type 0
-CutsReply last after since final = (turn : Turn) × (mid : Standing) × AnswersOne last turn mid since
+abbrev pub CutsReply : FeesAllowed → Standing → World → Since → Final → Type 0
+CutsReply allows last after since final = (turn : Turn) × (mid : Standing) × AnswersOne allows last turn mid since
     × AppendsFront last.world.written after.written (printed turn.reply) × (final ≡ settled mid.stood)
 
 -- its round, which has entries, did not come to stand
-pub record LosesRound (last mid : Standing) (since : Since) : Type 0 where
+pub record LosesRound (allows : FeesAllowed) (last mid : Standing) (since : Since) : Type 0 where
   pub turn : Turn
-  pub answered : AnswersOne last turn mid since
+  pub answered : AnswersOne allows last turn mid since
   pub acted : answered.begun.entries ≢ []
 
 -- the commit failed on the disk, and that is replied
-abbrev pub FailsOnDisk : Writing → Standing → World → Since → Final → Type 0
-FailsOnDisk writes last after since final = (mid : Standing) × LosesRound last mid since
+abbrev pub FailsOnDisk : FeesAllowed → Writing → Standing → World → Since → Final → Type 0
+FailsOnDisk allows writes last after since final = (mid : Standing) × LosesRound allows last mid since
     × writes last.world.written after.written (printed (refusal_reply (now last.stood) DiskFault))
     × (final ≡ tried_after last.stood mid.stood)
 
 -- the round does not fit in the journal, and that is replied
-abbrev pub FailsForRoom : Writing → Standing → World → Since → Final → Type 0
-FailsForRoom writes last after since final = (mid : Standing) × LosesRound last mid since
+abbrev pub FailsForRoom : FeesAllowed → Writing → Standing → World → Since → Final → Type 0
+FailsForRoom allows writes last after since final = (mid : Standing) × LosesRound allows last mid since
     × writes last.world.written after.written (printed (refusal_reply (now last.stood) JournalFull))
     × (final ≡ unfit_after last.stood mid.stood)
 
@@ -116,40 +116,41 @@ pub record DrawsNone (last : Standing) (after : World) (since : Since) (final : 
   pub same : final ≡ settled last.stood
 
 -- why it ends
-abbrev pub Cause : End → Standing → World → Since → Final → Type 0
-Cause ends.Done last after since final =
+abbrev pub Cause : FeesAllowed → End → Standing → World → Since → Final → Type 0
+Cause allows ends.Done last after since final =
     (last.answered < turn_limit) × IsEnded since.held × IsAtEnd after.left × IsIdle last after since final
-Cause ends.Malformed last after since final = Refuses Appends last after since final
-Cause ends.TurnLimit last after since final = (last.answered ≡ turn_limit) × IsIdle last after since final
+Cause allows ends.Malformed last after since final = Refuses Appends last after since final
+Cause allows ends.TurnLimit last after since final = (last.answered ≡ turn_limit) × IsIdle last after since final
 -- what was read since begins with no request, so each request that was read whole has its reply
-Cause ends.ReadFault last after since final =
+Cause allows ends.ReadFault last after since final =
     (last.answered < turn_limit) × BeginsWithNoRequest since.held × IsIdle last after since final
-Cause ends.WordsFault last after since final = DrawsNone last after since final
-Cause ends.DiskFault last after since final = FailsOnDisk Appends last after since final
-Cause ends.JournalFull last after since final = FailsForRoom Appends last after since final
+Cause allows ends.WordsFault last after since final = DrawsNone last after since final
+Cause allows ends.DiskFault last after since final = FailsOnDisk allows Appends last after since final
+Cause allows ends.JournalFull last after since final = FailsForRoom allows Appends last after since final
 -- a reply, the last refusal, or the reply to a round that does not stand
-Cause ends.WriteFault last after since final =
-    CutsReply last after since final ⊎ Refuses AppendsFront last after since final
-    ⊎ FailsOnDisk AppendsFront last after since final ⊎ FailsForRoom AppendsFront last after since final
-Cause ends.OutOfMemory last after since final =
+Cause allows ends.WriteFault last after since final =
+    CutsReply allows last after since final ⊎ Refuses AppendsFront last after since final
+    ⊎ FailsOnDisk allows AppendsFront last after since final ⊎ FailsForRoom allows AppendsFront last after since final
+Cause allows ends.OutOfMemory last after since final =
     (length since.asked ≤ 1) × (length since.drawn ≤ 1) × Keeps last.world.written after.written × (final ≡ settled last.stood)
 
 -- how it ends after its last whole turn
-pub record Ends (end : End) (last : Standing) (after : World) (final : Final) : Type 0 where
+pub record Ends (allows : FeesAllowed) (end : End) (last : Standing) (after : World) (final : Final) : Type 0 where
   -- read, asked and drawn, but not answered whole
   pub since : Since
   pub read : Consumes last.world.left after.left since.held
   pub clock : AsksKnown last.world.answers after.answers since.asked
   pub draws : DrawsKnown last.world.words after.words since.drawn
-  pub cause : Cause end last after since final
+  pub cause : Cause allows end last after since final
 
 -- ---- the whole
 
-pub record Session (first : Standing) (after : World) (end : End) (final : Final) : Type 0 where
+-- under the terms of the fee rule
+pub record Session (allows : FeesAllowed) (first : Standing) (after : World) (end : End) (final : Final) : Type 0 where
   pub turns : List Turn
   pub last : Standing
-  pub run : Run first turns last
-  pub ends : Ends end last after final
+  pub run : Run allows first turns last
+  pub ends : Ends allows end last after final
 
 -- at the beginning: the history that was found, and nothing read yet
 abbrev pub begun : List Entry → World → Standing

@@ -5,9 +5,9 @@ use Rattle.std.specs.declared.result.Result.{Result}
 use Rattle.op_ports.specs.Clock.{AsksKnown}
 use Rattle.op_ports.specs.Words.{DrawsKnown}
 use Rattle.op_model.specs.History.{moment_of_turn}
-use Rattle.op_model.specs.Meant.{meant}
+use Rattle.op_model.specs.Meant.{meant_so_far}
 use Rattle.op_model.specs.Printed.{printed}
-use Rattle.op_model.specs.Round.{Terms, Handled, IsPlainRound, refusal_reply}
+use Rattle.op_model.specs.Round.{FeesAllowed, Handled, IsPlainRound, refusal_reply}
 use Rattle.op_model.specs.Requests.{Raw, IsWholeRequest}
 use Rattle.op_session.specs.Stood.{Stood, now, with_entries}
 use Rattle.op_model.specs.Verdicts.{verdict_of}
@@ -34,32 +34,30 @@ pub record Turn : Type 0 where
   pub answer : ℕ
   -- what was drawn
   pub word : List ℕ
+  -- what the fee rule answered, where it was asked
+  pub fee : ℕ
   pub wanted_memory : Bool
   pub reply : Reply
 
 -- ---- what a request is replied, and what it adds
-
--- no fee rule is there yet, and none is asked
-abbrev pub NoTerms : Terms
-NoTerms pair amount fee = ⊥
 
 -- the turn's one task, as it was handled: at the place before its act
 abbrev pub handled : Request → Turn → Handled
 handled request turn = record {
   task = Ask request turn.verdict;
   word = turn.word;
-  fee = 0;
+  fee = turn.fee;
   place = 0;
   wanted_memory = turn.wanted_memory;
   reply = turn.reply;
 }
 
--- A request that is understood is a round of one task. Any other has its refusal, and adds nothing.
+-- A request that is understood is a round of one task, under the terms of the fee rule. Any other has its refusal, and adds nothing.
 -- Want of memory may stand in place of either reply.
-abbrev pub IsReplied : (old : List Entry) → Turn → Result Request Refusal → (new : List Entry) → Type 0
-IsReplied old turn (Ok request) new =
-    IsPlainRound NoTerms (length old) old (moment_of_turn old turn.answer) (handled request turn ∷ []) new
-IsReplied old turn (Err refusal) new =
+abbrev pub IsReplied : FeesAllowed → (old : List Entry) → Turn → Result Request Refusal → (new : List Entry) → Type 0
+IsReplied allows old turn (Ok request) new =
+    IsPlainRound allows (length old) old (moment_of_turn old turn.answer) (handled request turn ∷ []) new
+IsReplied allows old turn (Err refusal) new =
     (turn.reply ≡ refusal_reply old (if turn.wanted_memory then Memory else refusal)) × (new ≡ old)
 
 -- ---- where a session stands between two turns
@@ -75,7 +73,7 @@ pub record Standing : Type 0 where
 
 -- A request is read, the clock is asked and a word is drawn, once each, and the request is answered. The reply is not
 -- written yet.
-pub record Begins (old : Standing) (turn : Turn) (new : Standing) : Type 0 where
+pub record Begins (allows : FeesAllowed) (old : Standing) (turn : Turn) (new : Standing) : Type 0 where
   pub limit : old.answered < turn_limit
   pub spelled : IsWholeRequest turn.text turn.raw
   pub judged : turn.verdict ≡ verdict_of old.world.accepts turn.raw
@@ -85,18 +83,18 @@ pub record Begins (old : Standing) (turn : Turn) (new : Standing) : Type 0 where
   pub whole : length turn.word ≡ 16
   -- its round: what it adds to the history, all of it or none
   pub entries : List Entry
-  pub replied : IsReplied (now old.stood) turn (meant turn.raw) (now old.stood ++ entries)
+  pub replied : IsReplied allows (now old.stood) turn (meant_so_far turn.raw) (now old.stood ++ entries)
   pub stands : new.stood ≡ with_entries old.stood entries
   pub counted : new.answered ≡ old.answered + 1
   pub moved : new.at ≡ old.at + length turn.text
   pub verifier : new.world.accepts ≡ old.world.accepts
 
 -- a whole turn
-pub record IsTurn (old : Standing) (turn : Turn) (new : Standing) : Type 0 where
-  pub begun : Begins old turn new
+pub record IsTurn (allows : FeesAllowed) (old : Standing) (turn : Turn) (new : Standing) : Type 0 where
+  pub begun : Begins allows old turn new
   pub written : Appends old.world.written new.world.written (printed turn.reply)
 
 -- turns, one after another
-abbrev pub Run : Standing → List Turn → Standing → Type 0
-Run first [] last = last ≡ first
-Run first (turn ∷ turns) last = (mid : Standing) × IsTurn first turn mid × Run mid turns last
+abbrev pub Run : FeesAllowed → Standing → List Turn → Standing → Type 0
+Run allows first [] last = last ≡ first
+Run allows first (turn ∷ turns) last = (mid : Standing) × IsTurn allows first turn mid × Run allows mid turns last

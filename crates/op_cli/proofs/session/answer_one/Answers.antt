@@ -4,7 +4,7 @@ use Rattle.std.specs.Io.KnownBytes.{Appends}
 use Rattle.std.specs.declared.result.Result.{Result}
 use Rattle.op_desk.specs.Wallets.{Handles}
 use Rattle.op_model.specs.History.{moment_of_turn}
-use Rattle.op_model.specs.Meant.{meant}
+use Rattle.op_model.specs.Meant.{meant_so_far}
 use Rattle.op_model.specs.Printed.{printed}
 use Rattle.op_session.specs.Session.{settled}
 use Rattle.op_session.specs.Stood.{Stood, now}
@@ -38,8 +38,8 @@ returns-in-Ok-clause-ok g c =
     let handled = done.2 in (
       entries,
       done.1,
-      subst (λ (asked : Result Request Refusal). Told old entries (g.K.Sink.written c.args.sink.now) (g.K.Sink.written c.run_request.new.sink) verdict c.args.answer c.args.word.now asked) (sym c.in-Ok.ensures.meant)
-          (handled.0, answers_handled old entries verdict c.args.answer c.args.word.now c.in-Ok.request handled.0 (subst (λ (v : Verdict). Handles old (moment_of_turn old c.args.answer) 0 (Ask c.in-Ok.request v) c.args.word.now handled.0 (old ++ entries)) c.in-Ok.ensures.asker handled.1), handled.2),
+      subst (λ (asked : Result Request Refusal). Told g.F.FeeTerms.allows old entries (g.K.Sink.written c.args.sink.now) (g.K.Sink.written c.run_request.new.sink) verdict c.args.answer c.args.word.now asked) (sym c.in-Ok.ensures.meant)
+          (handled.0, answers_handled g.F.FeeTerms.allows old entries verdict c.args.answer c.args.word.now c.in-Ok.request handled.0 (subst (λ (v : Verdict). Handles g.F.FeeTerms.allows old (moment_of_turn old c.args.answer) 0 (Ask c.in-Ok.request v) c.args.word.now handled.0 (old ++ entries)) c.in-Ok.ensures.asker handled.1), handled.2),
       done.3,
     ))
     c.run_request.ensures.ok
@@ -51,9 +51,9 @@ returns-in-Ok-clause-err g c =
     (λ end failing stood is.
     let failed = failing stood is in (
       failed.0,
-      subst (λ (asked : Result Request Refusal). NotTold stood (g.K.Sink.written c.args.sink.now) (g.K.Sink.written c.run_request.new.sink) verdict c.args.answer c.args.word.now asked end failed.0) (sym c.in-Ok.ensures.meant)
-          (not_told stood _ _ c.args.answer c.args.word.now c.in-Ok.request verdict end failed.0
-          (subst (λ (v : Verdict). NotHandled stood (g.K.Sink.written c.args.sink.now) (g.K.Sink.written c.run_request.new.sink) c.args.answer c.args.word.now (Ask c.in-Ok.request v) end failed.0) c.in-Ok.ensures.asker failed.1)),
+      subst (λ (asked : Result Request Refusal). NotTold g.F.FeeTerms.allows stood (g.K.Sink.written c.args.sink.now) (g.K.Sink.written c.run_request.new.sink) verdict c.args.answer c.args.word.now asked end failed.0) (sym c.in-Ok.ensures.meant)
+          (not_told g.F.FeeTerms.allows stood _ _ c.args.answer c.args.word.now c.in-Ok.request verdict end failed.0
+          (subst (λ (v : Verdict). NotHandled g.F.FeeTerms.allows stood (g.K.Sink.written c.args.sink.now) (g.K.Sink.written c.run_request.new.sink) c.args.answer c.args.word.now (Ask c.in-Ok.request v) end failed.0) c.in-Ok.ensures.asker failed.1)),
       failed.2,
     ))
     c.run_request.ensures.err
@@ -67,17 +67,17 @@ returns-in-Err-Refused-clause-ok g c =
     let history = history_at c.args.desk.now in
     let verdict = verdict_of (g.V.Verifier.accepts c.args.verifier.now) c.args.raw.now in
     let refusal = c.in-Err-Refused.refusal in
-    let meant_so : meant c.args.raw.now ≡ Err refusal = rw c.in-Err-Refused.field-0-is at c.in-Err-Refused.ensures.meant in
+    let meant_so : meant_so_far c.args.raw.now ≡ Err refusal = rw c.in-Err-Refused.field-0-is at c.in-Err-Refused.ensures.meant in
     on_ok_map c.refuse_one.result
     (λ written stood is. (
       [],
       unchanged history stood is,
       (
         refusal_reply (now stood) refusal,
-        subst (λ (asked : Result Request Refusal). Answers (now stood) verdict c.args.answer c.args.word.now asked (refusal_reply (now stood) refusal) []) (sym meant_so) (answers_refused (now stood) verdict c.args.answer c.args.word.now refusal),
+        subst (λ (asked : Result Request Refusal). Answers g.F.FeeTerms.allows (now stood) verdict c.args.answer c.args.word.now asked (refusal_reply (now stood) refusal) []) (sym meant_so) (answers_refused g.F.FeeTerms.allows (now stood) verdict c.args.answer c.args.word.now refusal),
         subst (λ (h : List Entry). Appends (g.K.Sink.written c.args.sink.now) (g.K.Sink.written c.refuse_one.new.sink) (printed (refusal_reply h refusal))) (sym is) written,
       ),
-      leaves_none g.D.Disk.tells g.D.Disk.seen g.D.Disk.moment g.D.Disk.since g.D.Disk.images g.D.Disk.faults g.met.D.Disk.only_now history c.args.disk.now c.requires.sound c.requires.ready.spelled stood is,
+      leaves_none g.D.Disk.tells g.D.Disk.seen g.D.Disk.moment g.D.Disk.since g.D.Disk.images g.D.Disk.faults g.met.D.Disk.only_now history c.args.disk.now c.requires.sound stood is,
     ))
     c.refuse_one.ensures.ok
 
@@ -86,14 +86,14 @@ returns-in-Err-Refused-clause-err g c =
     let history = history_at c.args.desk.now in
     let verdict = verdict_of (g.V.Verifier.accepts c.args.verifier.now) c.args.raw.now in
     let refusal = c.in-Err-Refused.refusal in
-    let meant_so : meant c.args.raw.now ≡ Err refusal = rw c.in-Err-Refused.field-0-is at c.in-Err-Refused.ensures.meant in
+    let meant_so : meant_so_far c.args.raw.now ≡ Err refusal = rw c.in-Err-Refused.field-0-is at c.in-Err-Refused.ensures.meant in
     if_err_map c.refuse_one.result
     (λ end failed stood is. (
       settled stood,
-      not_told_refused stood _ _ c.args.answer c.args.word.now verdict (meant c.args.raw.now) (refusal_reply (now stood) refusal) end
-          (subst (λ (asked : Result Request Refusal). Answers (now stood) verdict c.args.answer c.args.word.now asked (refusal_reply (now stood) refusal) []) (sym meant_so) (answers_refused (now stood) verdict c.args.answer c.args.word.now refusal))
+      not_told_refused g.F.FeeTerms.allows stood _ _ c.args.answer c.args.word.now verdict (meant_so_far c.args.raw.now) (refusal_reply (now stood) refusal) end
+          (subst (λ (asked : Result Request Refusal). Answers g.F.FeeTerms.allows (now stood) verdict c.args.answer c.args.word.now asked (refusal_reply (now stood) refusal) []) (sym meant_so) (answers_refused g.F.FeeTerms.allows (now stood) verdict c.args.answer c.args.word.now refusal))
           (subst (λ (h : List Entry). NotWritten (refusal_reply h refusal) (g.K.Sink.written c.args.sink.now) (g.K.Sink.written c.refuse_one.new.sink) end) (sym is) failed),
-      leaves_same g.D.Disk.tells g.D.Disk.seen g.D.Disk.moment g.D.Disk.since g.D.Disk.images g.D.Disk.faults g.met.D.Disk.only_now history c.args.disk.now c.requires.sound c.requires.ready.spelled stood is,
+      leaves_same g.D.Disk.tells g.D.Disk.seen g.D.Disk.moment g.D.Disk.since g.D.Disk.images g.D.Disk.faults g.met.D.Disk.only_now history c.args.disk.now c.requires.sound stood is,
     ))
     c.refuse_one.ensures.err
 
@@ -107,10 +107,10 @@ returns-in-Err-Memory-clause-ok g c =
       unchanged history stood is,
       (
         refusal_reply (now stood) Memory,
-        answers_wanting (now stood) verdict c.args.answer c.args.word.now (meant c.args.raw.now),
+        answers_wanting g.F.FeeTerms.allows (now stood) verdict c.args.answer c.args.word.now (meant_so_far c.args.raw.now),
         subst (λ (h : List Entry). Appends (g.K.Sink.written c.args.sink.now) (g.K.Sink.written c.refuse_one-in-Err-Memory.new.sink) (printed (refusal_reply h Memory))) (sym is) written,
       ),
-      leaves_none g.D.Disk.tells g.D.Disk.seen g.D.Disk.moment g.D.Disk.since g.D.Disk.images g.D.Disk.faults g.met.D.Disk.only_now history c.args.disk.now c.requires.sound c.requires.ready.spelled stood is,
+      leaves_none g.D.Disk.tells g.D.Disk.seen g.D.Disk.moment g.D.Disk.since g.D.Disk.images g.D.Disk.faults g.met.D.Disk.only_now history c.args.disk.now c.requires.sound stood is,
     ))
     c.refuse_one-in-Err-Memory.ensures.ok
 
@@ -121,8 +121,8 @@ returns-in-Err-Memory-clause-err g c =
     if_err_map c.refuse_one-in-Err-Memory.result
     (λ end failed stood is. (
       settled stood,
-      not_told_refused stood _ _ c.args.answer c.args.word.now verdict (meant c.args.raw.now) (refusal_reply (now stood) Memory) end (answers_wanting (now stood) verdict c.args.answer c.args.word.now (meant c.args.raw.now))
+      not_told_refused g.F.FeeTerms.allows stood _ _ c.args.answer c.args.word.now verdict (meant_so_far c.args.raw.now) (refusal_reply (now stood) Memory) end (answers_wanting g.F.FeeTerms.allows (now stood) verdict c.args.answer c.args.word.now (meant_so_far c.args.raw.now))
           (subst (λ (h : List Entry). NotWritten (refusal_reply h Memory) (g.K.Sink.written c.args.sink.now) (g.K.Sink.written c.refuse_one-in-Err-Memory.new.sink) end) (sym is) failed),
-      leaves_same g.D.Disk.tells g.D.Disk.seen g.D.Disk.moment g.D.Disk.since g.D.Disk.images g.D.Disk.faults g.met.D.Disk.only_now history c.args.disk.now c.requires.sound c.requires.ready.spelled stood is,
+      leaves_same g.D.Disk.tells g.D.Disk.seen g.D.Disk.moment g.D.Disk.since g.D.Disk.images g.D.Disk.faults g.met.D.Disk.only_now history c.args.disk.now c.requires.sound stood is,
     ))
     c.refuse_one-in-Err-Memory.ensures.err

@@ -28,5 +28,5 @@ pub returns-in-Err-clause-err : goal.returns-in-Err-clause-err
 returns-in-Err-clause-err g c stood is = (
   settled stood,
   (c.now-answer.result, c.now-answer.ensures, c.in-Err.ensures.drawn, keeps_same _, refl),
-  leaves_same g.D.Disk.tells g.D.Disk.seen g.D.Disk.moment g.D.Disk.since g.D.Disk.images g.D.Disk.faults g.met.D.Disk.only_now (history_at c.args.desk.now) c.args.outside.now.disk c.requires.sound c.requires.ready.spelled stood is,
+  leaves_same g.D.Disk.tells g.D.Disk.seen g.D.Disk.moment g.D.Disk.since g.D.Disk.images g.D.Disk.faults g.met.D.Disk.only_now (history_at c.args.desk.now) c.args.outside.now.disk c.requires.sound stood is,
 )

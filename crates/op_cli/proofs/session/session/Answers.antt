@@ -19,8 +19,8 @@ loop-answered-init g c =
       record {
         stands = now_opened first;
         goes_on = λ after end final session.
-            subst (λ (standing : Standing). Session standing after end final) (ap (λ (held : Held). here (opened_with first) held world 0) c.new-reader.ensures ∙ begins_fresh first world) session;
-        kept = kept_first g.D.Disk.tells g.D.Disk.seen g.D.Disk.moment g.D.Disk.since g.D.Disk.images g.D.Disk.faults g.met.D.Disk.only_now first c.args.outside.now.disk c.requires.sound c.requires.ready.spelled;
+            subst (λ (standing : Standing). Session g.F.FeeTerms.allows standing after end final) (ap (λ (held : Held). here (opened_with first) held world 0) c.new-reader.ensures ∙ begins_fresh first world) session;
+        kept = kept_first g.D.Disk.tells g.D.Disk.seen g.D.Disk.moment g.D.Disk.since g.D.Disk.images g.D.Disk.faults g.met.D.Disk.only_now first c.args.outside.now.disk c.requires.sound;
         ready = c.requires.ready;
         at = omega (arith, ap (λ (held : Held). held.at) c.new-reader.ensures);
         read_kept = refl;
@@ -45,7 +45,7 @@ loop-answered-preserved g c =
         stands = now_with stood turned.0 ∙ sym turned.1;
         goes_on = λ after end final rest.
             let step = turned.2 n c.loop-answered-test.true in
-            inv.goes_on after end final (one_more _ _ step.0 after end final step.1 rest);
+            inv.goes_on after end final (one_more _ _ _ step.0 after end final step.1 rest);
         kept = kept_more g.D.Disk.tells g.D.Disk.seen g.D.Disk.moment g.D.Disk.since g.D.Disk.images g.D.Disk.faults g.met.D.Disk.only_now (history_at c.args.desk) stood (settled (with_entries stood turned.0)) c.args.outside.now.disk c.loop-answered.outside.disk c.turn.new.outside.disk
             inv.kept inv.disk_kept turned.3;
         ready = c.in-Ok.ensures.ready;
@@ -63,7 +63,7 @@ returns-in-Err-clause-session g c =
     let inv = c.loop-answered.invariant.1 in
     let ended = c.in-Err.ensures.err stood inv.stands in (
       ended.0,
-      inv.goes_on _ _ _ (at_once _ _ _ ended.0 (ended.1 c.loop-answered._answered c.loop-answered-test.true)),
+      inv.goes_on _ _ _ (at_once _ _ _ _ ended.0 (ended.1 c.loop-answered._answered c.loop-answered-test.true)),
       kept_more g.D.Disk.tells g.D.Disk.seen g.D.Disk.moment g.D.Disk.since g.D.Disk.images g.D.Disk.faults g.met.D.Disk.only_now (history_at c.args.desk) stood ended.0 c.args.outside.now.disk c.loop-answered.outside.disk c.turn.new.outside.disk
           inv.kept inv.disk_kept ended.2,
     )
@@ -73,4 +73,4 @@ returns-clause-session g c =
     let stood = c.loop-answered.invariant.0 in
     let inv = c.loop-answered.invariant.1 in
     let all : c.loop-answered._answered ≡ turn_limit = omega arith in
-    (settled stood, inv.goes_on _ _ _ (at_once _ _ _ _ (at_limit stood c.loop-answered.reader _ c.loop-answered._answered all)), inv.kept)
+    (settled stood, inv.goes_on _ _ _ (at_once _ _ _ _ _ (at_limit _ stood c.loop-answered.reader _ c.loop-answered._answered all)), inv.kept)

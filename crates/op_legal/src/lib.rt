@@ -1,0 +1,8 @@
+//! What is answered is legal, and what holds of every legal history. Each function does nothing: its contract is the law.
+#![tactic(auto)]
+
+mod answers;
+mod rounds;
+
+pub use answers::{answers_keep_legal, beginnings_are_legal, tasks_stay_proper};
+pub use rounds::{plain_rounds_keep_legal, rounds_keep_legal, steps_act_once};
