@@ -4,6 +4,8 @@ pub mod Recordable
 pub mod Readers
 pub mod Rows
 pub mod Cuts
+pub mod Rounds
 pub mod Reading
+pub mod RoundReading
 pub mod Laws
 pub mod Writing
