@@ -6,7 +6,7 @@ ghost use Rattle.op_api.specs.Body.{IsMeant, IsPrintable, IsReadingFault, refusa
 ghost use Rattle.op_api.specs.Routes.{asked_on};
 ghost use Rattle.op_api.specs.declared.request.ApiFault.TheVariants.{Memory};
 
-use crate::body::read_add_asset;
+use crate::provider::read_add_asset;
 use crate::verdict::verdict_of;
 use op_http::{RawRequest, Route, RouteFault, find_route};
 use op_model::{Refusal, Request, Verdict};
@@ -46,7 +46,6 @@ fn unrouted(fault: RouteFault) -> ApiFault
 /// The request that this one means on its route. A route that is not built yet is not found.
 fn on_route(alloc: Global, route: &Route, raw: &RawRequest) -> Result<Request, ApiFault>
     ensures meant { IsMeant (asked_on route.now raw.now) result }
-    ensures printable { IfErr result IsPrintable }
     ensures forms { IfErr result IsReadingFault }
 {
     match route {
