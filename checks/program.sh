@@ -113,4 +113,47 @@ if [ -c /dev/full ]; then
     check 'an output that takes nothing' 6 'wallet: a write of the output failed'
 fi
 
+# The journal is locked while it is open: a second program on it fails, and the first goes on.
+: > "$folder/want"
+: > "$folder/first_out"
+fresh
+mkfifo "$folder/pipe"
+"$wallet" apply "$folder/journal" < "$folder/pipe" > "$folder/first_out" 2> "$folder/first_err" &
+first=$!
+exec 3> "$folder/pipe"
+head -c 107 crates/wallet/stdin >&3
+tries=0
+while [ ! -s "$folder/first_out" ] && [ "$tries" -lt 60 ]; do
+    sleep 1
+    tries=$((tries + 1))
+done
+cp "$folder/journal" "$folder/before"
+run apply "$folder/journal" < crates/wallet/stdin
+check 'a journal that another program holds open' 5 "wallet: a call on the journal's file failed"
+if ! cmp -s "$folder/journal" "$folder/before"; then
+    echo 'FAILED  the program without the lock changed the journal'
+    failed=1
+fi
+{
+    tail -c +108 crates/wallet/stdin
+    sed 's/USD/EUR/' crates/wallet/stdin | head -c 107
+} >&3
+exec 3>&-
+wait "$first"
+status=$?
+sed 's/USD/EUR/' crates/wallet/stdout | head -c 140 > "$folder/added"
+cat crates/wallet/stdout "$folder/added" > "$folder/want"
+mv "$folder/first_out" "$folder/out"
+mv "$folder/first_err" "$folder/err"
+check 'the program that holds the journal' 0 ''
+
+tail -c +141 crates/wallet/stdout > "$folder/known"
+cat "$folder/known" "$folder/known" > "$folder/want"
+{
+    head -c 107 crates/wallet/stdin
+    sed 's/USD/EUR/' crates/wallet/stdin | head -c 107
+} > "$folder/both"
+run apply "$folder/journal" < "$folder/both"
+check 'both assets of the program that held the journal are there' 0 ''
+
 exit $failed

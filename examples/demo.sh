@@ -11,8 +11,9 @@ show() {
     echo
     echo '--- the replies:'
     bin/wallet apply "$folder/journal" < "examples/$2"
+    status=$?
     echo
-    echo "--- status $?"
+    echo "--- status $status"
     echo
 }
 

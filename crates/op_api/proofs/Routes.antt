@@ -2,7 +2,7 @@
 use Rattle.std.proofs.Common.{◌≡◌, Ok, refl}
 use Rattle.op_http.specs.Routes.{Routed}
 use Rattle.op_api.specs.Routes.{asked_on}
-use Rattle.op_model.specs.Meant.{meant, asked_if_built}
+use Rattle.op_model.specs.Meant.{meant_so_far, asked_if_built}
 use Rattle.op_model.specs.Requests.{Raw}
 use Rattle.op_model.specs.RouteTable.{Route, route_of}
 use Rattle.op_model.specs.declared.route.Route.TheVariants as routes
@@ -37,5 +37,5 @@ asked_on_route routes.ListOutgoings raw = refl
 asked_on_route (routes.ReadOutgoing id) raw = refl
 asked_on_route routes.ReadFeed raw = refl
 
-pub meant_on_route : (raw : Raw) (route : Route) → Routed (route_of raw.method raw.target) (Ok route) → meant raw ≡ asked_on route raw
+pub meant_on_route : (raw : Raw) (route : Route) → Routed (route_of raw.method raw.target) (Ok route) → meant_so_far raw ≡ asked_on route raw
 meant_on_route raw route asked = rw asked (asked_on_route route raw)

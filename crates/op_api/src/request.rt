@@ -1,12 +1,12 @@
 //! Requests as they came, and what they mean.
 ghost use Rattle.std.specs.Prelude.{◌≡◌, IfOk, IfErr};
-ghost use Rattle.op_model.specs.Meant.{meant};
+ghost use Rattle.op_model.specs.Meant.{meant_so_far};
 ghost use Rattle.op_model.specs.Verdicts.{verdict_of};
 ghost use Rattle.op_api.specs.Body.{IsMeant, IsPrintable, IsReadingFault, refusal_of, request_of};
 ghost use Rattle.op_api.specs.Routes.{asked_on};
 ghost use Rattle.op_api.specs.declared.request.ApiFault.TheVariants.{Memory};
 
-use crate::body::read_add_asset;
+use crate::provider::read_add_asset;
 use crate::verdict::verdict_of;
 use op_http::{RawRequest, Route, RouteFault, RouteTable};
 use op_model::{Refusal, Request, Verdict};
@@ -46,7 +46,6 @@ fn unrouted(fault: RouteFault) -> ApiFault
 /// The request that this one means on its route. A route that is not built yet is not found.
 fn on_route(alloc: Global, route: &Route, raw: &RawRequest) -> Result<Request, ApiFault>
     ensures meant { IsMeant (asked_on route.now raw.now) result }
-    ensures printable { IfErr result IsPrintable }
     ensures forms { IfErr result IsReadingFault }
 {
     match route {
@@ -57,7 +56,7 @@ fn on_route(alloc: Global, route: &Route, raw: &RawRequest) -> Result<Request, A
 
 /// The request that this one means, by its method, target and body.
 fn read_request(alloc: Global, table: &RouteTable, raw: &RawRequest) -> Result<Request, ApiFault>
-    ensures meant { IsMeant (meant raw.now) result }
+    ensures meant { IsMeant (meant_so_far raw.now) result }
     ensures printable { IfErr result IsPrintable }
     ensures forms { IfErr result IsReadingFault }
 {
@@ -81,7 +80,7 @@ pub fn prepare<V: Verifier>(
     raw: &RawRequest,
     verifier: &V,
 ) -> Result<(Request, Verdict), ApiFault>
-    ensures meant { IsMeant (meant raw.now) (request_of result) }
+    ensures meant { IsMeant (meant_so_far raw.now) (request_of result) }
     ensures asker { IfOk result (λ (request, verdict). verdict ≡ verdict_of (V.accepts verifier.now) raw.now) }
     ensures printable { IfErr result IsPrintable }
     ensures forms { IfErr result IsReadingFault }

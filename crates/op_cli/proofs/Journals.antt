@@ -1,5 +1,5 @@
 -- What rounds leave on a disk, one after another.
-use Rattle.std.proofs.Common.{◌≡◌, ◌≢◌, ◌≤◌, ◌<◌, ◌+◌, ◌-◌, ◌*◌, ◌⊎◌, ℕ, Bool, List, [], ◌∷◌, ◌++◌, length, IsTrue, IsSome, Some, None, refl, sym, ap, subst, ◌∙◌, inl, inr, arith, append_assoc, length-append, nat_le}
+use Rattle.std.proofs.Common.{◌≡◌, ◌≢◌, ◌≤◌, ◌<◌, ◌+◌, ◌*◌, ◌⊎◌, ℕ, Bool, List, [], ◌∷◌, ◌++◌, length, IsTrue, IsSome, Some, refl, sym, ap, subst, ◌∙◌, inl, inr, arith, append_assoc, length-append, nat_le}
 use Rattle.std.specs.Option.{option_map_or}
 use Rattle.std.specs.declared.option.Option.{Option}
 use Rattle.std.proofs.lemmas.Bool.{cases_Bool, leb-true, leb-false}
@@ -8,39 +8,74 @@ use Rattle.std.proofs.lemmas.List.Concat.{flat_map-append}
 use Rattle.std.proofs.Math.Seq.{take-length}
 use Rattle.op_causes.specs.Causes.{Rose}
 use Rattle.op_desk.specs.Batches.{DeskValue, IsWhole}
-use Rattle.op_desk.specs.Spelling.{Spells, SpellsRounds, SpellsEither, Stands, history_of, with_round}
-use Rattle.op_desk.specs.Wallets.{WalletValue, IsSound, with_entry}
+use Rattle.op_desk.specs.Spelling.{SpellsRounds, SpellsEither, Stands, LacksRoom, history_of, with_round}
+use Rattle.op_desk.specs.Wallets.{WalletValue, IsSound}
+use Rattle.op_desk.proofs.Closing.{image_spells}
+use Rattle.op_desk.proofs.Unique.{one_spelling}
 use Rattle.op_disk.specs.Calls.{LeavesOnly}
-use Rattle.op_model.specs.Session.{Final, settled, tried_after, unfit_after}
 use Rattle.op_model.specs.declared.act.Entry.{Entry}
-use Rattle.op_cli.specs.Kept.{SpellsAtLeast, GoesOn, Lasts, IsUnfit, Leaves, Stood, Kept, IsReady, history_at}
+use Rattle.op_session.specs.Session.{Final, settled, tried_after, unfit_after}
+use Rattle.op_session.specs.Stood.{Stood, opened_with, entries_of, now, with_rounds, round_of, with_entries}
+use Rattle.op_cli.specs.Kept.{AllSpell, FromEach, SpellsAtLeast, SpellsFinal, GoesOn, Lasts, IsUnfit, Leaves, Endures, Kept, IsReady, history_at}
 
--- ---- histories and those that begin them
+-- ---- what stands, and more rounds
 
--- all of a history
-pub spells_all : (least : ℕ) (history : List Entry) (c : List ℕ) → least ≤ length history → Spells history c → SpellsAtLeast least history c
-spells_all least history c enough s = (length history, enough, omega arith, subst (λ (h : List Entry). Spells h c) (sym (take-length history)) s)
+pub now_opened : (history : List Entry) → now (opened_with history) ≡ history
+now_opened history = append-nil history
 
--- what begins a history begins a longer one
-pub spells_longer : (least : ℕ) (history more : List Entry) (c : List ℕ) → SpellsAtLeast least history c → SpellsAtLeast least (history ++ more) c
-spells_longer least history more c (n, enough, within, s) =
-    (n, enough, omega (arith, within, length-append history more), subst (λ (h : List Entry). Spells h c) (sym (take-append-le n history more within)) s)
+-- what stands, with these rounds in place of its own
+abbrev pub with_list : Stood → List (List Entry) → Stood
+with_list s rounds = record { found = s.found; rounds = rounds }
 
--- ---- rounds as histories
+pub no_more : (s : Stood) → s ≡ with_rounds s []
+no_more s = ap (with_list s) (sym (append-nil s.rounds))
+
+pub now_more : (s : Stood) (more : List (List Entry)) → now (with_rounds s more) ≡ now s ++ entries_of more
+now_more s more = ap (λ (h : List Entry). s.found ++ h) (flat_map-append (λ (round : List Entry). round) s.rounds more) ∙ sym (append_assoc s.found (entries_of s.rounds) (entries_of more))
+
+pub round_entries : (entries : List Entry) → entries_of (round_of entries) ≡ entries
+round_entries [] = refl
+round_entries (e ∷ es) = append-nil (e ∷ es)
+
+pub now_with : (s : Stood) (entries : List Entry) → now (with_entries s entries) ≡ now s ++ entries
+now_with s entries = now_more s (round_of entries) ∙ ap (λ (h : List Entry). now s ++ h) (round_entries entries)
+
+-- the same, from a history
+pub now_from : (history : List Entry) (s : Stood) (entries : List Entry) → now s ≡ history → now (with_entries s entries) ≡ history ++ entries
+now_from history s entries is = now_with s entries ∙ ap (λ (h : List Entry). h ++ entries) is
+
+-- ---- rounds and those that begin them
+
+-- all of them
+pub spells_all : (least : ℕ) (found new : List (List Entry)) (c : List ℕ) → least ≤ length new → SpellsRounds (found ++ new) c → SpellsAtLeast least found new c
+spells_all least found new c enough is = (length new, enough, omega arith, subst (λ (rounds : List (List Entry)). SpellsRounds (found ++ rounds) c) (sym (take-length new)) is)
+
+-- what begins rounds begins more of them
+pub spells_longer : (least : ℕ) (found new more : List (List Entry)) (c : List ℕ) → SpellsAtLeast least found new c → SpellsAtLeast least found (new ++ more) c
+spells_longer least found new more c (n, enough, within, is) =
+    (n, enough, omega (arith, within, length-append new more), subst (λ (rounds : List (List Entry)). SpellsRounds (found ++ rounds) c) (sym (take-append-le n new more within)) is)
+
+-- ---- a round behind rounds
 
 pub history_with : (rounds : List (List Entry)) (round : List Entry) → history_of (with_round rounds round) ≡ history_of rounds ++ round
 history_with rounds [] = sym (append-nil (history_of rounds))
 history_with rounds (e ∷ es) = flat_map-append (λ (round : List Entry). round) rounds ((e ∷ es) ∷ []) ∙ ap (λ (h : List Entry). history_of rounds ++ h) (append-nil (e ∷ es))
 
-pub spells_of : (rounds : List (List Entry)) (history : List Entry) (c : List ℕ) → history_of rounds ≡ history → SpellsRounds rounds c → Spells history c
-spells_of rounds history c e s = (rounds, s, e)
+round_behind : (found rounds : List (List Entry)) (round : List Entry) → with_round (found ++ rounds) round ≡ found ++ (rounds ++ round_of round)
+round_behind found rounds [] = ap (λ (more : List (List Entry)). found ++ more) (sym (append-nil rounds))
+round_behind found rounds (e ∷ es) = append_assoc found rounds ((e ∷ es) ∷ [])
 
-pub spells_with : (rounds : List (List Entry)) (before round : List Entry) (c : List ℕ) → history_of rounds ≡ before → SpellsRounds (with_round rounds round) c → Spells (before ++ round) c
-spells_with rounds before round c e s = (with_round rounds round, s, history_with rounds round ∙ ap (λ (h : List Entry). h ++ round) e)
+spells_round : (found : List (List Entry)) (s : Stood) (round : List Entry) (c : List ℕ) → SpellsRounds (with_round (found ++ s.rounds) round) c → SpellsRounds (found ++ (s.rounds ++ round_of round)) c
+spells_round found s round c spelled = subst (λ (rounds : List (List Entry)). SpellsRounds rounds c) (round_behind found s.rounds round) spelled
 
-pub spells_either : (rounds : List (List Entry)) (before round : List Entry) (c : List ℕ) → history_of rounds ≡ before → SpellsEither rounds round c → Spells before c ⊎ Spells (before ++ round) c
-spells_either rounds before round c e (inl s) = inl (spells_of rounds before c e s)
-spells_either rounds before round c e (inr s) = inr (spells_with rounds before round c e s)
+-- what stands, or that with a round
+spells_either : (found : List (List Entry)) (s : Stood) (round : List Entry) (c : List ℕ) → SpellsEither (found ++ s.rounds) round c → SpellsRounds (found ++ s.rounds) c ⊎ SpellsRounds (found ++ (s.rounds ++ round_of round)) c
+spells_either found s round c (inl spelled) = inl spelled
+spells_either found s round c (inr spelled) = inr (spells_round found s round c spelled)
+
+-- where a round has no room behind a history, it has none behind what stands with it
+pub lacks_room : (history : List Entry) (s : Stood) (round : List Entry) (bytes : List ℕ) → now s ≡ history → LacksRoom history (history ++ round) bytes → LacksRoom (now s) (now (with_entries s round)) bytes
+lacks_room history s round bytes is lacks = subst (λ (h : List Entry). LacksRoom h (now (with_entries s round)) bytes) (sym is) (subst (λ (h : List Entry). LacksRoom history h bytes) (sym (now_from history s round is)) lacks)
 
 -- ---- one round
 
@@ -51,99 +86,106 @@ leaves_map moment since old new P Q f leaves = record {
   before = λ t c early there. elim (leaves.before t c early there) [ inl past ↦ inl past | inr now ↦ inr (f c now) ];
 }
 
--- a round without entries is none
-settled_round : (before round : List Entry) → length round ≤ 1 → GoesOn before (settled (before ++ round))
-settled_round before round one = record {
-  more = round;
+at_most_one : (round : List Entry) → length (round_of round) ≤ 1
+at_most_one [] = omega arith
+at_most_one (e ∷ es) = omega arith
+
+settled_round : (before : Stood) (round : List Entry) → GoesOn before (settled (with_entries before round))
+settled_round before round = record {
+  more = round_of round;
   stands = refl;
   rest = [];
-  tried = sym (append-nil (before ++ round));
-  one = omega (arith, one, length-append round []);
+  tried = no_more (with_entries before round);
+  one = omega (arith, at_most_one round, length-append (round_of round) []);
 }
 
 module _ {D : Type 0} (tells : Bool) (seen : D → List ℕ) (moment : D → ℕ) (since : D → ℕ → List ℕ → Type 0) (images : D → List ℕ → Type 0) (faults : D → ℕ) where
   -- no call on the disk was made, and where a round did not fit, there was no room for it
-  pub leaves_unfit : (only_now : (disk : D) (c : List ℕ) → since disk (moment disk) c → images disk c) (before unfit : List Entry) (disk : D) → IsSound before → (IsTrue tells → (c : List ℕ) → images disk c → Spells before c)
+  pub leaves_unfit : (only_now : (disk : D) (c : List ℕ) → since disk (moment disk) c → images disk c) (history : List Entry) (before unfit : Stood) (disk : D) → now before ≡ history → IsSound history
       → IsUnfit tells (unfit_after before unfit) (seen disk) → Leaves tells seen moment since images faults before (unfit_after before unfit) disk disk
-  leaves_unfit only_now before unfit disk sound spelled room = record {
-    goes_on = record { more = []; stands = sym (append-nil before); rest = []; tried = sym (append-nil before); one = omega arith };
-    sound = sound;
+  leaves_unfit only_now history before unfit disk is sound room = record {
+    goes_on = record { more = []; stands = no_more before; rest = []; tried = no_more before; one = omega arith };
+    sound = subst IsSound (sym is) sound;
     settled = λ none. refl;
     unfit = room;
-    lasts = λ told. record {
+    lasts = λ told found all. record {
       leaves = record {
         later = omega arith;
-        each = λ c there. inl (spelled told c (only_now disk c there));
+        each = λ c there. inl (all c (only_now disk c there));
         before = λ t c early there. inl there;
       };
-      at_end = λ c image. inl (spelled told c image);
+      at_end = λ c image. inl (all c image);
       least = omega arith;
       most = omega arith;
     };
   }
 
   -- no call on the disk was made, and all fitted
-  pub leaves_same : (only_now : (disk : D) (c : List ℕ) → since disk (moment disk) c → images disk c) (before : List Entry) (disk : D) → IsSound before → (IsTrue tells → (c : List ℕ) → images disk c → Spells before c)
-      → Leaves tells seen moment since images faults before (settled before) disk disk
-  leaves_same only_now before disk sound spelled = leaves_unfit only_now before before disk sound spelled (λ differs told. absurd (differs refl))
+  pub leaves_same : (only_now : (disk : D) (c : List ℕ) → since disk (moment disk) c → images disk c) (history : List Entry) (disk : D) → IsSound history
+      → FromEach history (λ s. Leaves tells seen moment since images faults s (settled s) disk disk)
+  leaves_same only_now history disk sound s is = leaves_unfit only_now history s s disk is sound (λ differs told. absurd (differs refl))
+
+  -- the same, as a round without entries
+  pub leaves_none : (only_now : (disk : D) (c : List ℕ) → since disk (moment disk) c → images disk c) (history : List Entry) (disk : D) → IsSound history
+      → FromEach history (λ s. Leaves tells seen moment since images faults s (settled (with_entries s [])) disk disk)
+  leaves_none only_now history disk sound s is =
+      subst (λ (after : Stood). Leaves tells seen moment since images faults s (settled after) disk disk) (no_more s) (leaves_same only_now history disk sound s is)
+
+  -- a disk on which a journal stands has the rounds that each image of it has
+  stands_behind : (reads : (disk : D) → IsTrue tells → images disk (seen disk)) (history : List Entry) (tail : ℕ) (found : List (List Entry)) (s : Stood) (disk : D) → IsTrue tells → AllSpell (found ++ s.rounds) (images disk)
+      → (rounds : List (List Entry)) × (history_of rounds ≡ history) × Stands rounds tail (seen disk) (images disk) → Stands (found ++ s.rounds) tail (seen disk) (images disk)
+  stands_behind reads history tail found s disk told all (rounds, is, stands) =
+      let here = reads disk told in
+      subst (λ (r : List (List Entry)). Stands r tail (seen disk) (images disk))
+      (one_spelling (seen disk) rounds (found ++ s.rounds) (image_spells rounds tail (seen disk) (images disk) (seen disk) stands here) (all (seen disk) here)) stands
 
   -- the round stands
-  pub leaves_round : (before round : List Entry) (old new : D) → length round ≤ 1 → IsSound (before ++ round)
-      → (IsTrue tells → (rounds : List (List Entry)) × (history_of rounds ≡ before) × LeavesOnly moment since old new (SpellsEither rounds round) × ((c : List ℕ) → images new c → SpellsRounds (with_round rounds round) c))
-      → (round ≢ [] → moment new ≡ moment old + 4) → (round ≡ [] → new ≡ old) → Leaves tells seen moment since images faults before (settled (before ++ round)) old new
-  leaves_round before [] old new one sound stands calls empty =
-      let same : moment new ≡ moment old = ap moment (empty refl) in
+  pub leaves_round : (reads : (disk : D) → IsTrue tells → images disk (seen disk)) (history round : List Entry) (tail : ℕ) (old new : D) → IsSound (history ++ round)
+      → (IsTrue tells → (rounds : List (List Entry)) × (history_of rounds ≡ history) × Stands rounds tail (seen old) (images old))
+      → (IsTrue tells → (rounds : List (List Entry)) → Stands rounds tail (seen old) (images old) → LeavesOnly moment since old new (SpellsEither rounds round))
+      → (IsTrue tells → (rounds : List (List Entry)) → Stands rounds tail (seen old) (images old) → (c : List ℕ) → images new c → SpellsRounds (with_round rounds round) c)
+      → (round ≢ [] → moment new ≡ moment old + 4) → (round ≡ [] → new ≡ old) → FromEach history (λ s. Leaves tells seen moment since images faults s (settled (with_entries s round)) old new)
+  leaves_round reads history round tail old new sound stood any_moment spelled calls empty before is =
+      let count = counted round calls empty in
       record {
-        goes_on = settled_round before [] one;
-        sound = sound;
+        goes_on = settled_round before round;
+        sound = subst IsSound (sym (now_from history before round is)) sound;
         settled = λ none. refl;
         unfit = λ differs told. absurd (differs refl);
-        lasts = λ told.
-            let s = stands told in
+        lasts = λ told found all.
+            let stands = stands_behind reads history tail found before old told all (stood told) in
             record {
-              leaves = leaves_map moment since old new (SpellsEither s.0 []) _ (λ c. spells_either s.0 before [] c s.1) s.2;
-              at_end = λ c image. inl (spells_with s.0 before [] c s.1 (s.3 c image));
-              least = omega (arith, same, length-append before []);
-              most = omega (arith, same);
+              leaves = leaves_map moment since old new (SpellsEither (found ++ before.rounds) round) _ (λ c. spells_either found before round c) (any_moment told (found ++ before.rounds) stands);
+              at_end = λ c image. inl (spells_round found before round c (spelled told (found ++ before.rounds) stands c image));
+              least = omega (arith, count, length-append before.rounds (round_of round));
+              most = omega (arith, count, length-append before.rounds (round_of round));
             };
       }
-  leaves_round before (e ∷ es) old new one sound stands calls empty =
-      let four : moment new ≡ moment old + 4 = calls (λ none. cc) in
-      record {
-        goes_on = settled_round before (e ∷ es) one;
-        sound = sound;
-        settled = λ none. refl;
-        unfit = λ differs told. absurd (differs refl);
-        lasts = λ told.
-            let s = stands told in
-            record {
-              leaves = leaves_map moment since old new (SpellsEither s.0 (e ∷ es)) _ (λ c. spells_either s.0 before (e ∷ es) c s.1) s.2;
-              at_end = λ c image. inl (spells_with s.0 before (e ∷ es) c s.1 (s.3 c image));
-              least = omega (arith, four, one, length-append before (e ∷ es));
-              most = omega (arith, four, length-append before (e ∷ es));
-            };
-      }
+    where
+      counted : (round : List Entry) → (round ≢ [] → moment new ≡ moment old + 4) → (round ≡ [] → new ≡ old) → moment new ≡ moment old + 4 * length (round_of round)
+      counted [] calls empty = let same = ap moment (empty refl) in omega (arith, same)
+      counted (e ∷ es) calls empty = let four = calls (λ none. cc) in omega (arith, four)
 
   -- the round failed on the disk
-  pub leaves_failed : (counts_now : (disk : D) (t : ℕ) (c : List ℕ) → t ≤ moment disk → images disk c → since disk t c) (before round : List Entry) (old new : D) → length round ≤ 1 → round ≢ [] → IsSound (before ++ round)
-      → (IsTrue tells → (rounds : List (List Entry)) × (history_of rounds ≡ before) × LeavesOnly moment since old new (SpellsEither rounds round))
-      → Rose (faults old) (faults new) → moment new ≤ moment old + 4 → Leaves tells seen moment since images faults before (tried_after before (before ++ round)) old new
-  leaves_failed counts_now before [] old new one some sound stands rose most = absurd (some refl)
-  leaves_failed counts_now before (e ∷ es) old new one some sound stands rose most =
-      record {
-        goes_on = record { more = []; stands = sym (append-nil before); rest = e ∷ es; tried = refl; one = one };
-        sound = sound;
-        settled = λ none. absurd (none rose);
-        unfit = λ differs told. absurd (differs refl);
-        lasts = λ told.
-            let s = stands told in
-            record {
-              leaves = leaves_map moment since old new (SpellsEither s.0 (e ∷ es)) _ (λ c. spells_either s.0 before (e ∷ es) c s.1) s.2;
-              at_end = λ c image. spells_either s.0 before (e ∷ es) c s.1 (s.2.each c (counts_now new (moment old) c s.2.later image));
-              least = omega (arith, s.2.later);
-              most = omega (arith, most, length-append before (e ∷ es));
-            };
-      }
+  pub leaves_failed : (reads : (disk : D) → IsTrue tells → images disk (seen disk)) (counts_now : (disk : D) (t : ℕ) (c : List ℕ) → t ≤ moment disk → images disk c → since disk t c) (history round : List Entry) (tail : ℕ) (old new : D) → round ≢ [] → IsSound (history ++ round)
+      → (IsTrue tells → (rounds : List (List Entry)) × (history_of rounds ≡ history) × Stands rounds tail (seen old) (images old))
+      → (IsTrue tells → (rounds : List (List Entry)) → Stands rounds tail (seen old) (images old) → LeavesOnly moment since old new (SpellsEither rounds round))
+      → Rose (faults old) (faults new) → moment new ≤ moment old + 4 → FromEach history (λ s. Leaves tells seen moment since images faults s (tried_after s (with_entries s round)) old new)
+  leaves_failed reads counts_now history [] tail old new some sound stood any_moment rose most before is = absurd (some refl)
+  leaves_failed reads counts_now history (e ∷ es) tail old new some sound stood any_moment rose most before is = record {
+    goes_on = record { more = []; stands = no_more before; rest = (e ∷ es) ∷ []; tried = refl; one = omega arith };
+    sound = subst IsSound (sym (now_from history before (e ∷ es) is)) sound;
+    settled = λ none. absurd (none rose);
+    unfit = λ differs told. absurd (differs refl);
+    lasts = λ told found all.
+        let leaves = any_moment told (found ++ before.rounds) (stands_behind reads history tail found before old told all (stood told)) in
+        record {
+          leaves = leaves_map moment since old new (SpellsEither (found ++ before.rounds) (e ∷ es)) _ (λ c. spells_either found before (e ∷ es) c) leaves;
+          at_end = λ c image. spells_either found before (e ∷ es) c (leaves.each c (counts_now new (moment old) c leaves.later image));
+          least = omega (arith, leaves.later);
+          most = omega (arith, most, length-append before.rounds ((e ∷ es) ∷ []));
+        };
+  }
 
 -- ---- desks
 
@@ -156,114 +198,109 @@ whole_is desk history (spare, is) = ap (λ (w : Option WalletValue). option_map_
 pub wallet_is : (desk : DeskValue) (w : WalletValue) → desk.wallet ≡ Some w → history_at desk ≡ w.history
 wallet_is desk w is = ap (λ (x : Option WalletValue). option_map_or (λ y. y.history) x []) is
 
-pub one_entry : (entry : Option Entry) → length (with_entry [] entry) ≤ 1
-one_entry None = omega arith
-one_entry (Some e) = omega arith
-
-pub more_differs : (before round : List Entry) → round ≢ [] → before ++ round ≢ before
-more_differs before [] some same = some refl
-more_differs before (e ∷ es) some same = absurd (omega (arith, ap length same, length-append before (e ∷ es)))
-
 module _ {D : Type 0} (tells : Bool) (seen : D → List ℕ) (images : D → List ℕ → Type 0) where
   -- the desk is ready behind a round that stands
   pub ready_behind : (desk : DeskValue) (before round : List Entry) (tail : ℕ) (old new : D) → IsWhole desk.wallet (before ++ round)
       → (IsTrue tells → (rounds : List (List Entry)) × (history_of rounds ≡ before) × Stands rounds tail (seen old) (images old))
       → (IsTrue tells → (rounds : List (List Entry)) → Stands rounds tail (seen old) (images old) → Stands (with_round rounds round) desk.tail (seen new) (images new))
-      → (IsTrue tells → (rounds : List (List Entry)) → Stands rounds tail (seen old) (images old) → (c : List ℕ) → images new c → SpellsRounds (with_round rounds round) c)
       → IsReady tells desk (seen new) (images new)
-  ready_behind desk before round tail old new whole stood stands spelled = record {
+  ready_behind desk before round tail old new whole stood stands = record {
     whole = whole_some desk.wallet (before ++ round) whole;
     stands = λ told.
         let s = stood told in
         (with_round s.0 round, history_with s.0 round ∙ (ap (λ (h : List Entry). h ++ round) s.1 ∙ sym (whole_is desk (before ++ round) whole)), stands told s.0 s.2);
-    spelled = λ told c image.
-        let s = stood told in
-        subst (λ (h : List Entry). Spells h c) (sym (whole_is desk (before ++ round) whole)) (spells_with s.0 before round c s.1 (spelled told s.0 s.2 c image));
   }
 
 -- ---- one more round
 
-module _ {D : Type 0} (moment : D → ℕ) (since : D → ℕ → List ℕ → Type 0) (images : D → List ℕ → Type 0) (only_now : (disk : D) (c : List ℕ) → since disk (moment disk) c → images disk c) where
-  -- what a round leaves is at least the history before it
-  left_at_least : (least : ℕ) (before : List Entry) (final : Final) (c : List ℕ) → least ≤ length before → GoesOn before final → Spells before c ⊎ Spells final.tried c → SpellsAtLeast least final.tried c
-  left_at_least least before final c enough goes (inl s) =
-      subst (λ (h : List Entry). SpellsAtLeast least h c) (sym (append_assoc before goes.more goes.rest) ∙ (ap (λ (h : List Entry). h ++ goes.rest) (sym goes.stands) ∙ sym goes.tried))
-      (spells_longer least before (goes.more ++ goes.rest) c (spells_all least before c enough s))
-  left_at_least least before final c enough goes (inr s) =
-      spells_all least final.tried c (omega (arith, enough, ap length goes.tried, ap length goes.stands, length-append final.stands goes.rest, length-append before goes.more)) s
+module _ {D : Type 0} (moment : D → ℕ) (since : D → ℕ → List ℕ → Type 0) (images : D → List ℕ → Type 0) (only_now : (disk : D) (c : List ℕ) → since disk (moment disk) c → images disk c) (found : List (List Entry)) where
+  -- the rounds that are tried are those before, and then more
+  tried_rounds : (before : Stood) (final : Final) (goes : GoesOn before final) → final.tried.rounds ≡ before.rounds ++ (goes.more ++ goes.rest)
+  tried_rounds before final goes = ap (λ (h : Stood). h.rounds) goes.tried ∙ (ap (λ (h : Stood). h.rounds ++ goes.rest) goes.stands ∙ append_assoc before.rounds goes.more goes.rest)
 
-  longer_left : (least : ℕ) (before : List Entry) (final : Final) (c : List ℕ) → GoesOn before final → SpellsAtLeast least before c → SpellsAtLeast least final.tried c
+  longer_left : (least : ℕ) (before : Stood) (final : Final) (c : List ℕ) → GoesOn before final → SpellsAtLeast least found before.rounds c → SpellsAtLeast least found final.tried.rounds c
   longer_left least before final c goes s =
-      subst (λ (h : List Entry). SpellsAtLeast least h c) (sym (append_assoc before goes.more goes.rest) ∙ (ap (λ (h : List Entry). h ++ goes.rest) (sym goes.stands) ∙ sym goes.tried))
-      (spells_longer least before (goes.more ++ goes.rest) c s)
+      subst (λ (rounds : List (List Entry)). SpellsAtLeast least found rounds c) (sym (tried_rounds before final goes)) (spells_longer least found before.rounds (goes.more ++ goes.rest) c s)
 
-  pub stood_more : (first before : List Entry) (final : Final) (opened old new : D) → (begun : (more : List Entry) × (before ≡ first ++ more)) → Stood moment since first (settled before) opened old → GoesOn before final → Lasts moment since images before final old new → Stood moment since first final opened new
-  stood_more first before final opened old new begun stood goes lasts =
-      let a = ap length begun.1 in
-      let b = length-append first begun.0 in
-      let s = ap length goes.stands in
-      let sl = length-append before goes.more in
-      let t = ap length goes.tried in
-      let tl = length-append final.stands goes.rest in
+  -- what a round leaves is at least what stood before it
+  left_at_least : (least : ℕ) (before : Stood) (final : Final) (c : List ℕ) → least ≤ length before.rounds → GoesOn before final → SpellsRounds (found ++ before.rounds) c ⊎ SpellsRounds (found ++ final.tried.rounds) c → SpellsAtLeast least found final.tried.rounds c
+  left_at_least least before final c enough goes (inl s) = longer_left least before final c goes (spells_all least found before.rounds c enough s)
+  left_at_least least before final c enough goes (inr s) =
+      spells_all least found final.tried.rounds c (omega (arith, enough, ap length (tried_rounds before final goes), length-append before.rounds (goes.more ++ goes.rest))) s
+
+  pub endures_more : (before : Stood) (final : Final) (opened old new : D) → Endures moment since images found (settled before) opened old → GoesOn before final → Lasts moment since images found before final old new → Endures moment since images found final opened new
+  endures_more before final opened old new stood goes lasts =
+      let s = ap (λ (h : Stood). length h.rounds) goes.stands in
+      let sl = length-append before.rounds goes.more in
+      let t = ap (λ (h : Stood). length h.rounds) goes.tried in
+      let tl = length-append final.stands.rounds goes.rest in
       let one = goes.one in
       let ol = length-append goes.more goes.rest in
       record {
-        each = λ k c within there. elim (cases_Bool (nat_le k (length before - length first))) [
+        each = λ k c within there. elim (cases_Bool (nat_le k (length before.rounds))) [
           | inl soon ↦
-              let early : k ≤ length before - length first = leb-true k (length before - length first) soon in
+              let early : k ≤ length before.rounds = leb-true k (length before.rounds) soon in
               elim (lasts.leaves.before (moment opened + 4 * k) c (omega (arith, early, stood.least)) there) [
-                | inl past ↦ longer_left (length first + k) before final c goes (stood.each k c early past)
-                | inr now ↦ left_at_least (length first + k) before final c (omega (arith, early, a, b)) goes now
+                | inl past ↦ longer_left k before final c goes (stood.each k c early past)
+                | inr now ↦ left_at_least k before final c early goes now
               ]
           | inr after ↦
-              let late : length before - length first < k = leb-false k (length before - length first) after in
-              let at_end : moment opened + 4 * k ≡ moment new = omega (arith, late, within, stood.least, stood.most, lasts.least, lasts.most, a, b, s, sl, t, tl, one, ol) in
+              let late : length before.rounds < k = leb-false k (length before.rounds) after in
+              let at_end : moment opened + 4 * k ≡ moment new = omega (arith, late, within, stood.least, stood.most, lasts.least, lasts.most, s, sl, t, tl, one, ol) in
               elim (lasts.at_end c (only_now new c (subst (λ (m : ℕ). since new m c) at_end there))) [
-                | inl stands ↦ subst (λ (h : List Entry). SpellsAtLeast (length first + k) h c) (sym goes.tried)
-                    (spells_longer (length first + k) final.stands goes.rest c (spells_all (length first + k) final.stands c (omega (arith, within, a, b, s, sl)) stands))
-                | inr tried ↦ spells_all (length first + k) final.tried c (omega (arith, within, a, b, s, sl, t, tl)) tried
+                | inl stands ↦ subst (λ (h : Stood). SpellsAtLeast k found h.rounds c) (sym goes.tried) (spells_longer k found final.stands.rounds goes.rest c (spells_all k found final.stands.rounds c within stands))
+                | inr tried ↦ spells_all k found final.tried.rounds c (omega (arith, within, t, tl)) tried
               ]
         ];
         before = λ m c early there. elim (lasts.leaves.before m c (omega (arith, early, stood.least)) there) [
           | inl past ↦ elim (stood.before m c early past) [
             | inl opening ↦ inl opening
-            | inr left ↦ inr (longer_left (length first) before final c goes left)
+            | inr left ↦ inr (longer_left 0 before final c goes left)
           ]
-          | inr now ↦ inr (left_at_least (length first) before final c (omega (arith, a, b)) goes now)
+          | inr now ↦ inr (left_at_least 0 before final c (omega arith) goes now)
         ];
-        least = omega (arith, stood.least, lasts.least, a, b, s, sl);
-        most = omega (arith, stood.most, lasts.most, a, b, s, sl, t, tl);
+        at_end = lasts.at_end;
+        least = omega (arith, stood.least, lasts.least, s, sl);
+        most = omega (arith, stood.most, lasts.most, s, sl, t, tl);
       }
+
+-- where no commit failed, each image has what stands
+settled_end : (found : List (List Entry)) (s : Stood) (c : List ℕ) → SpellsFinal found (settled s) c → SpellsRounds (found ++ s.rounds) c
+settled_end found s c (inl spelled) = spelled
+settled_end found s c (inr spelled) = spelled
 
 module _ {D : Type 0} (tells : Bool) (seen : D → List ℕ) (moment : D → ℕ) (since : D → ℕ → List ℕ → Type 0) (images : D → List ℕ → Type 0) (faults : D → ℕ) (only_now : (disk : D) (c : List ℕ) → since disk (moment disk) c → images disk c) where
   -- a session goes on by a turn
-  pub kept_more : (first before : List Entry) (final : Final) (opened old new : D) → Kept tells seen moment since images faults first (settled before) opened old → faults old ≡ faults opened
+  pub kept_more : (first : List Entry) (before : Stood) (final : Final) (opened old new : D) → Kept tells seen moment since images faults first (settled before) opened old → faults old ≡ faults opened
       → Leaves tells seen moment since images faults before final old new → Kept tells seen moment since images faults first final opened new
   kept_more first before final opened old new kept calm leaves = record {
-    begins = (kept.begins.0 ++ leaves.goes_on.more, leaves.goes_on.stands ∙ (ap (λ (h : List Entry). h ++ leaves.goes_on.more) kept.begins.1 ∙ append_assoc first kept.begins.0 leaves.goes_on.more));
+    begins = ap (λ (h : Stood). h.found) leaves.goes_on.stands ∙ kept.begins;
     tried = (leaves.goes_on.rest, leaves.goes_on.tried);
     sound = leaves.sound;
     unfit = leaves.unfit;
     settled = λ none. leaves.settled (λ rose. none (subst (λ (n : ℕ). Rose n (faults new)) calm rose));
-    stood = λ told. stood_more moment since images only_now first before final opened old new kept.begins (kept.stood told) leaves.goes_on (leaves.lasts told);
-    at_exit = λ told. (leaves.lasts told).at_end;
+    endures = λ told found all.
+        let stood = kept.endures told found all in
+        endures_more moment since images only_now found before final opened old new stood leaves.goes_on (leaves.lasts told found (λ c image. settled_end found before c (stood.at_end c image)));
   }
 
   -- a session begins
-  pub kept_first : (first : List Entry) (opened : D) → IsSound first → (IsTrue tells → (c : List ℕ) → images opened c → Spells first c) → Kept tells seen moment since images faults first (settled first) opened opened
-  kept_first first opened sound spelled = record {
-    begins = ([], sym (append-nil first));
-    tried = ([], sym (append-nil first));
-    sound = sound;
+  pub kept_first : (first : List Entry) (opened : D) → IsSound first → Kept tells seen moment since images faults first (settled (opened_with first)) opened opened
+  kept_first first opened sound = record {
+    begins = refl;
+    tried = ([], refl);
+    sound = subst IsSound (sym (now_opened first)) sound;
     settled = λ none. refl;
     unfit = λ differs told. absurd (differs refl);
-    stood = λ told. record {
-      each = λ k c within there.
-          let none : k ≡ 0 = omega (arith, within) in
-          spells_all (length first + k) first c (omega (arith, none)) (spelled told c (only_now opened c (subst (λ (m : ℕ). since opened m c) (omega (arith, none)) there)));
-      before = λ m c early there. inl there;
-      least = omega arith;
-      most = omega arith;
-    };
-    at_exit = λ told c image. inl (spelled told c image);
+    endures = λ told found all.
+        let spelled : (c : List ℕ) → images opened c → SpellsRounds (found ++ []) c = λ c image. subst (λ (rounds : List (List Entry)). SpellsRounds rounds c) (sym (append-nil found)) (all c image) in
+        record {
+          each = λ k c within there.
+              let none : k ≡ 0 = omega (arith, within) in
+              spells_all k found [] c within (spelled c (only_now opened c (subst (λ (m : ℕ). since opened m c) (omega (arith, none)) there)));
+          before = λ m c early there. inl there;
+          at_end = λ c image. inl (spelled c image);
+          least = omega arith;
+          most = omega arith;
+        };
   }

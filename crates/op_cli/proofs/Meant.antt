@@ -11,7 +11,7 @@ use Rattle.serde_json.specs.Find.{as_u64, as_number, get}
 use Rattle.op_amount.specs.Code.{is_asset_code}
 use Rattle.op_model.specs.Asking.{◌>>=◌}
 use Rattle.op_model.specs.Json.{object_in, text_in, number_of, optional_in, if_within, or_bad}
-use Rattle.op_model.specs.Meant.{meant, asked_if_built}
+use Rattle.op_model.specs.Meant.{meant_so_far, asked_if_built}
 use Rattle.op_model.specs.Members.{code_in, if_code, scale_in, pieces_in, add_asset_members}
 use Rattle.op_model.specs.Requests.{Raw}
 use Rattle.op_model.specs.RouteTable.{operation_of}
@@ -79,7 +79,7 @@ asked_fit raw operations.AddAsset request e =
     asset_fit object.0 request object.2
 asked_fit raw _ request e = absurd cc
 
-pub meant_fit : (raw : Raw) (request : Request) → meant raw ≡ Ok request → IsFit request
+pub meant_fit : (raw : Raw) (request : Request) → meant_so_far raw ≡ Ok request → IsFit request
 meant_fit raw request e =
     let operation = bound (operation_of raw.method raw.target) (asked_if_built raw) request e in
     asked_fit raw operation.0 request operation.2

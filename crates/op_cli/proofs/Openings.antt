@@ -1,12 +1,15 @@
 -- What an opening leaves, and what stands behind it.
-use Rattle.std.proofs.Common.{◌≡◌, ◌≤◌, ◌<◌, ◌+◌, ℕ, List, [], ◌∷◌, ◌++◌, length, map, refl, sym, ap, subst, ◌∙◌, inl, inr, arith}
+use Rattle.std.proofs.Common.{◌≡◌, ◌⊎◌, ◌≤◌, ◌<◌, ◌+◌, ◌++◌, ℕ, List, [], ◌∷◌, length, map, refl, sym, ap, subst, ◌∙◌, inl, inr, arith}
+use Rattle.std.proofs.lemmas.List.{append-nil}
+use Rattle.std.proofs.lemmas.List.Concat.{flat_map-append}
 use Rattle.op_desk.specs.Spelling.{Spells, SpellsRounds, history_of, records, opening_calls}
 use Rattle.op_journal.specs.Frames as frames
 use Rattle.op_journal.specs.Recovered.{IsOldOrShort}
-use Rattle.op_model.specs.Session.{Final}
 use Rattle.op_model.specs.declared.act.Entry.{Entry}
+use Rattle.op_session.specs.Session.{Final}
+use Rattle.op_session.specs.Stood.{Stood, entries_of, now, with_rounds}
 use Rattle.op_cli.specs.Applies.{EveryMoment}
-use Rattle.op_cli.specs.Kept.{SpellsAtLeast, Stood}
+use Rattle.op_cli.specs.Kept.{AllSpell, SpellsFinal, Endures}
 use Rattle.op_cli.proofs.Journals.{spells_all, spells_longer}
 
 map_none : {X Y : Type 0} (f : X → Y) (xs : List X) → map f xs ≡ [] → xs ≡ []
@@ -18,33 +21,44 @@ rounds_none : (rounds : List (List Entry)) (bytes : List ℕ) → length bytes �
 rounds_none rounds bytes short (inl (le, none)) = map_none records rounds none
 rounds_none rounds bytes short (inr (long, place, spells)) = absurd (omega (arith, short, long))
 
-pub short_spells : (bytes : List ℕ) (history : List Entry) → length bytes ≤ 9 → Spells history bytes → history ≡ []
-short_spells bytes history short (rounds, s, is) = sym is ∙ ap history_of (rounds_none rounds bytes short s.frames_are)
+-- what an opening may leave spells the rounds that the disk spelled
+pub old_or_short_spells : (seen c : List ℕ) (rounds : List (List Entry)) → SpellsRounds rounds seen → IsOldOrShort (λ d. d ≡ seen) seen c → SpellsRounds rounds c
+old_or_short_spells seen c rounds s (inl same) = subst (λ (d : List ℕ). SpellsRounds rounds d) (sym same) s
+old_or_short_spells seen c rounds s (inr (short, is)) = subst (λ (r : List (List Entry)). SpellsRounds r c) (sym (rounds_none rounds seen short s.frames_are)) (record { have = tt; frames_are = inl (is, refl) })
 
-spells_short : (bytes : List ℕ) → length bytes ≤ 9 → Spells [] bytes
-spells_short bytes short = ([], record { have = tt; frames_are = inl (short, refl) }, refl)
+module _ {D : Type 0} (seen : D → List ℕ) (moment : D → ℕ) (since : D → ℕ → List ℕ → Type 0) (images : D → List ℕ → Type 0) where
+  -- an opened disk has the rounds that were found
+  pub opened_spells : (counts_now : (disk : D) (t : ℕ) (c : List ℕ) → t ≤ moment disk → images disk c → since disk t c) (rounds : List (List Entry)) (old opened : D) → SpellsRounds rounds (seen old) → moment old + 1 < moment opened
+      → ((c : List ℕ) → since opened (moment old + 1) c → IsOldOrShort (λ d. d ≡ seen old) (seen old) c) → AllSpell rounds (images opened)
+  opened_spells counts_now rounds old opened spelled later synced c image =
+      old_or_short_spells (seen old) c rounds spelled (synced c (counts_now opened (moment old + 1) c (omega (arith, later)) image))
 
--- what an opening may leave spells what the disk spelled
-pub old_or_short_spells : (seen c : List ℕ) (first : List Entry) → Spells first seen → IsOldOrShort (λ d. d ≡ seen) seen c → Spells first c
-old_or_short_spells seen c first s (inl same) = subst (λ (d : List ℕ). Spells first d) (sym same) s
-old_or_short_spells seen c first s (inr (short, is)) = subst (λ (h : List Entry). Spells h c) (sym (short_spells seen first short s)) (spells_short c is)
-
-module _ {D : Type 0} (seen : D → List ℕ) (moment : D → ℕ) (since : D → ℕ → List ℕ → Type 0) where
-  pub every_moment : (first : List Entry) (final : Final) (old opened new : D) → (more : List Entry) × (final.stands ≡ first ++ more) → (rest : List Entry) × (final.tried ≡ final.stands ++ rest)
-      → Spells first (seen old) → moment old + 1 < moment opened → ((c : List ℕ) → since opened (moment old + 1) c → IsOldOrShort (λ d. d ≡ seen old) (seen old) c)
-      → (rounds : List (List Entry)) × SpellsRounds rounds (seen old) × (moment opened ≡ moment old + opening_calls (length rounds) (seen old)) → Stood moment since first final opened new → EveryMoment seen moment since first final old new
-  every_moment first final old opened new begins tried s later synced (rounds, found, calls) stood = record {
-    rounds = rounds;
-    found = found;
+  pub every_moment : (final : Final) (old opened new : D) (rounds : List (List Entry)) → SpellsRounds rounds (seen old) → moment opened ≡ moment old + opening_calls (length rounds) (seen old) → moment old + 1 < moment opened
+      → ((c : List ℕ) → since opened (moment old + 1) c → IsOldOrShort (λ d. d ≡ seen old) (seen old) c) → Endures moment since images rounds final opened new → EveryMoment seen moment since final old new
+  every_moment final old opened new rounds spelled calls later synced stood = record {
+    found = rounds;
+    spelled = spelled;
     opened = moment opened;
     opening = calls;
     prefix = λ c there. elim (stood.before (moment old + 1) c (omega (arith, later)) there) [
       | inl opening ↦
-          subst (λ (h : List Entry). SpellsAtLeast (length first) h c) (sym (tried.1 ∙ ap (λ (h : List Entry). h ++ tried.0) begins.1))
-          (spells_longer (length first) (first ++ begins.0) tried.0 c (spells_longer (length first) first begins.0 c (spells_all (length first) first c (omega arith) (old_or_short_spells (seen old) c first s (synced c opening)))))
+          spells_longer 0 rounds [] final.tried.rounds c
+          (spells_all 0 rounds [] c (omega arith) (subst (λ (r : List (List Entry)). SpellsRounds r c) (sym (append-nil rounds)) (old_or_short_spells (seen old) c rounds spelled (synced c opening))))
       | inr left ↦ left
     ];
     each = stood.each;
     least = stood.least;
     most = stood.most;
   }
+
+-- ---- the end
+
+-- the history of the rounds that were found and of those behind them
+end_history : (rounds : List (List Entry)) (s : Stood) → history_of rounds ≡ s.found → history_of (rounds ++ s.rounds) ≡ now s
+end_history rounds s is = flat_map-append (λ (round : List Entry). round) rounds s.rounds ∙ ap (λ (h : List Entry). h ++ entries_of s.rounds) is
+
+-- a crash at the end leaves what stands, or that with the round that was tried
+pub end_spells : (rounds : List (List Entry)) (final : Final) (c : List ℕ) → history_of rounds ≡ final.stands.found → (rest : List (List Entry)) × (final.tried ≡ with_rounds final.stands rest) → SpellsFinal rounds final c
+    → Spells (now final.stands) c ⊎ Spells (now final.tried) c
+end_spells rounds final c is tried (inl stands) = inl (rounds ++ final.stands.rounds, stands, end_history rounds final.stands is)
+end_spells rounds final c is tried (inr more) = inr (rounds ++ final.tried.rounds, more, end_history rounds final.tried (is ∙ sym (ap (λ (s : Stood). s.found) tried.1)))

@@ -9,19 +9,21 @@ use Rattle.op_http.specs.declared.reader.HttpFault.TheVariants as http
 use Rattle.op_ports.specs.Clock.{AsksKnown}
 use Rattle.op_ports.specs.Sink.{AppendsFront}
 use Rattle.op_ports.specs.Words.{DrawsKnown}
-use Rattle.op_model.specs.Meant.{meant}
+use Rattle.op_model.specs.Meant.{meant_so_far}
 use Rattle.op_model.specs.Printed.{printed}
 use Rattle.op_model.specs.Requests.{Raw, BeginsWithNoRequest}
-use Rattle.op_model.specs.Session.{Final, Ends, Cause, AnswersOne, LosesRound, IsRefusal, settled}
-use Rattle.op_model.specs.Turn.{Turn, Begins, IsTurn, turn_limit, refusal_reply}
+use Rattle.op_model.specs.Round.{FeesAllowed, refusal_reply}
 use Rattle.op_model.specs.Verdicts.{verdict_of}
-use Rattle.op_model.specs.World.{World}
 use Rattle.op_model.specs.declared.act.Entry.{Entry}
-use Rattle.op_model.specs.declared.end.End.{End}
-use Rattle.op_model.specs.declared.end.End.TheVariants as ends
 use Rattle.op_model.specs.declared.reply.Reply.{Reply}
 use Rattle.op_model.specs.declared.reply.Refusal.{Refusal}
 use Rattle.op_model.specs.declared.reply.Refusal.TheVariants as refusals
+use Rattle.op_session.specs.Session.{Final, Ends, Cause, AnswersOne, LosesRound, IsRefusal, settled}
+use Rattle.op_session.specs.Stood.{Stood, now, with_entries}
+use Rattle.op_session.specs.Turn.{Turn, Begins, IsTurn, turn_limit}
+use Rattle.op_session.specs.World.{World}
+use Rattle.op_session.specs.declared.end.End.{End}
+use Rattle.op_session.specs.declared.end.End.TheVariants as ends
 use Rattle.op_cli.specs.Turns.{here, Turns, Stops, turn_of, Answers, Replies, ReplyFails, RefusalEnds, Unread}
 
 pub asks_none : (told : Option (List ℕ)) → AsksKnown told told []
@@ -53,10 +55,10 @@ stays_read h h' left left' same = consumes_trans (stream h left) (stream h' left
 
 -- ---- a request was taken
 
-module _ (old : List Entry) (h h' : Held) (w w' : World) (raw : Raw) (takes : Takes h h' w.left w'.left raw) (same : w'.accepts ≡ w.accepts) (n : ℕ) (below : n < turn_limit) where
-  begins : (new : List Entry) (answer : ℕ) (word : List ℕ) (reply : Reply) → AsksKnown w.answers w'.answers (answer ∷ []) → DrawsKnown w.words w'.words (word ∷ []) → length word ≡ 16 → (answers : Answers old (verdict_of w.accepts raw) answer word (meant raw) reply new)
-      → Begins (here old h w n) (turn_of takes.text raw (verdict_of w.accepts raw) answer word answers.0 reply) (here new h' w' (n + 1))
-  begins new answer word reply asks draws sized answers = record {
+module _ (allows : FeesAllowed) (old : Stood) (h h' : Held) (w w' : World) (raw : Raw) (takes : Takes h h' w.left w'.left raw) (same : w'.accepts ≡ w.accepts) (n : ℕ) (below : n < turn_limit) where
+  begins : (entries : List Entry) (answer : ℕ) (word : List ℕ) (reply : Reply) → AsksKnown w.answers w'.answers (answer ∷ []) → DrawsKnown w.words w'.words (word ∷ []) → length word ≡ 16 → (answers : Answers allows (now old) (verdict_of w.accepts raw) answer word (meant_so_far raw) reply entries)
+      → Begins allows (here old h w n) (turn_of takes.text raw (verdict_of w.accepts raw) answer word answers.0 answers.1 reply) (here (with_entries old entries) h' w' (n + 1))
+  begins entries answer word reply asks draws sized answers = record {
     limit = below;
     spelled = takes.request;
     judged = refl;
@@ -64,7 +66,9 @@ module _ (old : List Entry) (h h' : Held) (w w' : World) (raw : Raw) (takes : Ta
     asked = asks;
     drawn = draws;
     whole = sized;
-    replied = answers.1 takes.text raw;
+    entries = entries;
+    replied = answers.2 takes.text raw;
+    stands = refl;
     counted = refl;
     moved = takes.at;
     verifier = same;
@@ -73,31 +77,32 @@ module _ (old : List Entry) (h h' : Held) (w w' : World) (raw : Raw) (takes : Ta
   read_since : Consumes (stream h w.left) w'.left (takes.text ++ h'.bytes)
   read_since = consumes_trans (stream h w.left) (stream h' w'.left) w'.left takes.text h'.bytes takes.taken (consumes_held h' w'.left)
 
-  answers_one : (new : List Entry) (answer : ℕ) (word : List ℕ) (reply : Reply) → AsksKnown w.answers w'.answers (answer ∷ []) → DrawsKnown w.words w'.words (word ∷ []) → length word ≡ 16 → (answers : Answers old (verdict_of w.accepts raw) answer word (meant raw) reply new)
-      → AnswersOne (here old h w n) (turn_of takes.text raw (verdict_of w.accepts raw) answer word answers.0 reply) (here new h' w' (n + 1)) (record { held = takes.text ++ h'.bytes; asked = answer ∷ []; drawn = word ∷ [] })
-  answers_one new answer word reply asks draws sized answers = record {
-    begun = begins new answer word reply asks draws sized answers;
+  answers_one : (entries : List Entry) (answer : ℕ) (word : List ℕ) (reply : Reply) → AsksKnown w.answers w'.answers (answer ∷ []) → DrawsKnown w.words w'.words (word ∷ []) → length word ≡ 16 → (answers : Answers allows (now old) (verdict_of w.accepts raw) answer word (meant_so_far raw) reply entries)
+      → AnswersOne allows (here old h w n) (turn_of takes.text raw (verdict_of w.accepts raw) answer word answers.0 answers.1 reply) (here (with_entries old entries) h' w' (n + 1)) (record { held = takes.text ++ h'.bytes; asked = answer ∷ []; drawn = word ∷ [] })
+  answers_one entries answer word reply asks draws sized answers = record {
+    begun = begins entries answer word reply asks draws sized answers;
     more = h'.bytes;
     read = refl;
     asked = refl;
     drawn = refl;
   }
 
-  pub turns_now : (new : List Entry) → Replies old new w w' raw → (turn : Turn) × IsTurn (here old h w n) turn (here new h' w' (n + 1))
-  turns_now new (answer, word, asks, draws, sized, (reply, answers, written)) =
-      (turn_of takes.text raw (verdict_of w.accepts raw) answer word answers.0 reply, record { begun = begins new answer word reply asks draws sized answers; written = written })
+  pub turns_now : (entries : List Entry) → Replies allows (now old) entries w w' raw → (turn : Turn) × IsTurn allows (here old h w n) turn (here (with_entries old entries) h' w' (n + 1))
+  turns_now entries (answer, word, asks, draws, sized, (reply, answers, written)) =
+      (turn_of takes.text raw (verdict_of w.accepts raw) answer word answers.0 answers.1 reply, record { begun = begins entries answer word reply asks draws sized answers; written = written })
 
   -- its act did not come to stand
-  loses : (new : List Entry) (answer : ℕ) (word : List ℕ) (reply : Reply) → AsksKnown w.answers w'.answers (answer ∷ []) → DrawsKnown w.words w'.words (word ∷ []) → length word ≡ 16 → (answers : Answers old (verdict_of w.accepts raw) answer word (meant raw) reply new) → new ≢ old
-      → LosesRound (here old h w n) (here new h' w' (n + 1)) (record { held = takes.text ++ h'.bytes; asked = answer ∷ []; drawn = word ∷ [] })
-  loses new answer word reply asks draws sized answers differs = record {
-    turn = turn_of takes.text raw (verdict_of w.accepts raw) answer word answers.0 reply;
-    answered = answers_one new answer word reply asks draws sized answers;
-    acted = differs;
+  loses : (entries : List Entry) (answer : ℕ) (word : List ℕ) (reply : Reply) → AsksKnown w.answers w'.answers (answer ∷ []) → DrawsKnown w.words w'.words (word ∷ []) → length word ≡ 16 → (answers : Answers allows (now old) (verdict_of w.accepts raw) answer word (meant_so_far raw) reply entries) → entries ≢ []
+      → LosesRound allows (here old h w n) (here (with_entries old entries) h' w' (n + 1)) (record { held = takes.text ++ h'.bytes; asked = answer ∷ []; drawn = word ∷ [] })
+  unfolding answers_one begins
+  loses entries answer word reply asks draws sized answers some = record {
+    turn = turn_of takes.text raw (verdict_of w.accepts raw) answer word answers.0 answers.1 reply;
+    answered = answers_one entries answer word reply asks draws sized answers;
+    acted = some;
   }
 
   ended : (end : End) (final : Final) (answer : ℕ) (word : List ℕ) → AsksKnown w.answers w'.answers (answer ∷ []) → DrawsKnown w.words w'.words (word ∷ [])
-      → Cause end (here old h w n) w' (record { held = takes.text ++ h'.bytes; asked = answer ∷ []; drawn = word ∷ [] }) final → Ends end (here old h w n) w' final
+      → Cause allows end (here old h w n) w' (record { held = takes.text ++ h'.bytes; asked = answer ∷ []; drawn = word ∷ [] }) final → Ends allows end (here old h w n) w' final
   ended end final answer word asks draws cause = record {
     since = record { held = takes.text ++ h'.bytes; asked = answer ∷ []; drawn = word ∷ [] };
     read = read_since;
@@ -107,17 +112,17 @@ module _ (old : List Entry) (h h' : Held) (w w' : World) (raw : Raw) (takes : Ta
   }
 
   -- the request was taken, and its reply not written whole
-  pub fails_now : (end : End) (final : Final) → ReplyFails old w w' raw end final → Ends end (here old h w n) w' final
-  fails_now ends.WriteFault final (answer, word, asks, draws, sized, inl (new, reply, answers, written, is)) =
-      ended ends.WriteFault final answer word asks draws (inl (turn_of takes.text raw (verdict_of w.accepts raw) answer word answers.0 reply, here new h' w' (n + 1), answers_one new answer word reply asks draws sized answers, written, is))
-  fails_now ends.WriteFault final (answer, word, asks, draws, sized, inr (inl (new, reply, answers, differs, written, is))) =
-      ended ends.WriteFault final answer word asks draws (inr (inr (inl (here new h' w' (n + 1), loses new answer word reply asks draws sized answers differs, written, is))))
-  fails_now ends.WriteFault final (answer, word, asks, draws, sized, inr (inr (new, reply, answers, differs, written, is))) =
-      ended ends.WriteFault final answer word asks draws (inr (inr (inr (here new h' w' (n + 1), loses new answer word reply asks draws sized answers differs, written, is))))
-  fails_now ends.DiskFault final (answer, word, asks, draws, sized, (new, reply, answers, differs, written, is)) =
-      ended ends.DiskFault final answer word asks draws (here new h' w' (n + 1), loses new answer word reply asks draws sized answers differs, written, is)
-  fails_now ends.JournalFull final (answer, word, asks, draws, sized, (new, reply, answers, differs, written, is)) =
-      ended ends.JournalFull final answer word asks draws (here new h' w' (n + 1), loses new answer word reply asks draws sized answers differs, written, is)
+  pub fails_now : (end : End) (final : Final) → ReplyFails allows old w w' raw end final → Ends allows end (here old h w n) w' final
+  fails_now ends.WriteFault final (answer, word, asks, draws, sized, inl (entries, reply, answers, written, is)) =
+      ended ends.WriteFault final answer word asks draws (inl (turn_of takes.text raw (verdict_of w.accepts raw) answer word answers.0 answers.1 reply, here (with_entries old entries) h' w' (n + 1), answers_one entries answer word reply asks draws sized answers, written, is))
+  fails_now ends.WriteFault final (answer, word, asks, draws, sized, inr (inl (entries, reply, answers, some, written, is))) =
+      ended ends.WriteFault final answer word asks draws (inr (inr (inl (here (with_entries old entries) h' w' (n + 1), loses entries answer word reply asks draws sized answers some, written, is))))
+  fails_now ends.WriteFault final (answer, word, asks, draws, sized, inr (inr (entries, reply, answers, some, written, is))) =
+      ended ends.WriteFault final answer word asks draws (inr (inr (inr (here (with_entries old entries) h' w' (n + 1), loses entries answer word reply asks draws sized answers some, written, is))))
+  fails_now ends.DiskFault final (answer, word, asks, draws, sized, (entries, reply, answers, some, written, is)) =
+      ended ends.DiskFault final answer word asks draws (here (with_entries old entries) h' w' (n + 1), loses entries answer word reply asks draws sized answers some, written, is)
+  fails_now ends.JournalFull final (answer, word, asks, draws, sized, (entries, reply, answers, some, written, is)) =
+      ended ends.JournalFull final answer word asks draws (here (with_entries old entries) h' w' (n + 1), loses entries answer word reply asks draws sized answers some, written, is)
   fails_now ends.OutOfMemory final (answer, word, asks, draws, sized, (unwritten, is)) =
       ended ends.OutOfMemory final answer word asks draws (omega arith, omega arith, unwritten, is)
   fails_now ends.WordsFault final (answer, asks, draws, unwritten, is) = record {
@@ -143,19 +148,19 @@ module _ (old : List Entry) (h h' : Held) (w w' : World) (raw : Raw) (takes : Ta
   fails_now ends.Malformed final fails = absurd fails.5
   fails_now ends.TurnLimit final fails = absurd fails.5
 
-module _ (old : List Entry) (h h' : Held) (w w' : World) (raw : Raw) where
-  pub turns : (new : List Entry) → Takes h h' w.left w'.left raw → w'.accepts ≡ w.accepts → Replies old new w w' raw → Turns (here old h w) (here new h' w')
-  turns new takes same replies n below = turns_now old h h' w w' raw takes same n below new replies
+module _ (allows : FeesAllowed) (old : Stood) (h h' : Held) (w w' : World) (raw : Raw) where
+  pub turns : (entries : List Entry) → Takes h h' w.left w'.left raw → w'.accepts ≡ w.accepts → Replies allows (now old) entries w w' raw → Turns allows (here old h w) (here (with_entries old entries) h' w')
+  turns entries takes same replies n below = turns_now allows old h h' w w' raw takes same n below entries replies
 
-  pub fails : (end : End) (final : Final) → Takes h h' w.left w'.left raw → w'.accepts ≡ w.accepts → ReplyFails old w w' raw end final → Stops (here old h w) w' end final
-  fails end final takes same failed n below = fails_now old h h' w w' raw takes same n below end final failed
+  pub fails : (end : End) (final : Final) → Takes h h' w.left w'.left raw → w'.accepts ≡ w.accepts → ReplyFails allows old w w' raw end final → Stops allows (here old h w) w' end final
+  fails end final takes same failed n below = fails_now allows old h h' w w' raw takes same n below end final failed
 
 -- ---- no request was taken
 
-module _ (old : List Entry) (h h' : Held) (w : World) (left' : Option (List ℕ)) where
+module _ (allows : FeesAllowed) (old : Stood) (h h' : Held) (w : World) (left' : Option (List ℕ)) where
   -- the stream begins with no request
-  pub refused : (end : End) (written' : Option (List ℕ)) (refusal : Refusal) (reply : Reply) → Stays h h' w.left left' → IsRefusal refusal h.at (stream h w.left) → reply ≡ refusal_reply old refusal → RefusalEnds reply w.written written' end
-      → Stops (here old h w) (record { left = left'; answers = w.answers; words = w.words; written = written'; accepts = w.accepts }) end (settled old)
+  pub refused : (end : End) (written' : Option (List ℕ)) (refusal : Refusal) (reply : Reply) → Stays h h' w.left left' → IsRefusal refusal h.at (stream h w.left) → reply ≡ refusal_reply (now old) refusal → RefusalEnds reply w.written written' end
+      → Stops allows (here old h w) (record { left = left'; answers = w.answers; words = w.words; written = written'; accepts = w.accepts }) end (settled old)
   refused ends.Malformed written' refusal reply same is told written n below = record {
     since = record { held = h'.bytes; asked = []; drawn = [] };
     read = stays_read h h' w.left left' same;
@@ -184,7 +189,7 @@ module _ (old : List Entry) (h h' : Held) (w : World) (left' : Option (List ℕ)
   refused ends.WordsFault written' refusal reply same is told written n below = absurd written
   refused ends.TurnLimit written' refusal reply same is told written n below = absurd written
 
-  read_fault : (written' : Option (List ℕ)) → Stays h h' w.left left' → BeginsWithNoRequest h'.bytes → Keeps w.written written' → Stops (here old h w) (record { left = left'; answers = w.answers; words = w.words; written = written'; accepts = w.accepts }) ends.ReadFault (settled old)
+  read_fault : (written' : Option (List ℕ)) → Stays h h' w.left left' → BeginsWithNoRequest h'.bytes → Keeps w.written written' → Stops allows (here old h w) (record { left = left'; answers = w.answers; words = w.words; written = written'; accepts = w.accepts }) ends.ReadFault (settled old)
   read_fault written' same none kept n below = record {
     since = record { held = h'.bytes; asked = []; drawn = [] };
     read = stays_read h h' w.left left' same;
@@ -193,7 +198,7 @@ module _ (old : List Entry) (h h' : Held) (w : World) (left' : Option (List ℕ)
     cause = (below, none, record { unasked = refl; undrawn = refl; unwritten = kept; same = refl });
   }
 
-  no_memory : (written' : Option (List ℕ)) → Stays h h' w.left left' → Keeps w.written written' → Stops (here old h w) (record { left = left'; answers = w.answers; words = w.words; written = written'; accepts = w.accepts }) ends.OutOfMemory (settled old)
+  no_memory : (written' : Option (List ℕ)) → Stays h h' w.left left' → Keeps w.written written' → Stops allows (here old h w) (record { left = left'; answers = w.answers; words = w.words; written = written'; accepts = w.accepts }) ends.OutOfMemory (settled old)
   no_memory written' same kept n below = record {
     since = record { held = h'.bytes; asked = []; drawn = [] };
     read = stays_read h h' w.left left' same;
@@ -202,7 +207,7 @@ module _ (old : List Entry) (h h' : Held) (w : World) (left' : Option (List ℕ)
     cause = (omega arith, omega arith, kept, refl);
   }
 
-  pub stream_ended : HasEnded h h' w.left left' → Stops (here old h w) (record w { left = left' }) ends.Done (settled old)
+  pub stream_ended : HasEnded h h' w.left left' → Stops allows (here old h w) (record w { left = left' }) ends.Done (settled old)
   stream_ended (same, blank, end) n below = record {
     since = record { held = h'.bytes; asked = []; drawn = [] };
     read = stays_read h h' w.left left' same;
@@ -212,15 +217,15 @@ module _ (old : List Entry) (h h' : Held) (w : World) (left' : Option (List ℕ)
   }
 
 -- no request was read
-pub unread_stops : (old : List Entry) (h h' : Held) (w : World) (left' written' : Option (List ℕ)) (end : End) (fault : HttpFault) → Refuses h h' w.left left' fault → Unread old fault w.written written' end
-    → Stops (here old h w) (record { left = left'; answers = w.answers; words = w.words; written = written'; accepts = w.accepts }) end (settled old)
-unread_stops old h h' w left' written' end (http.BadHttp at) (same, place, is) told = refused old h h' w left' end written' (refusals.BadHttp at) _ same (place, is) refl told
-unread_stops old h h' w left' written' end (http.LengthRequired at) (same, place, is) told = refused old h h' w left' end written' (refusals.LengthRequired at) _ same (place, is) refl told
-unread_stops old h h' w left' written' end (http.TooLarge at) (same, place, is) told = refused old h h' w left' end written' (refusals.RequestTooLarge at) _ same (place, is) refl told
-unread_stops old h h' w left' written' end http.ReadFault (same, none) (is, kept) =
-    subst (λ (e : End). Stops (here old h w) (record { left = left'; answers = w.answers; words = w.words; written = written'; accepts = w.accepts }) e (settled old)) (sym is) (read_fault old h h' w left' written' same none kept)
-unread_stops old h h' w left' written' end http.Memory same (is, kept) =
-    subst (λ (e : End). Stops (here old h w) (record { left = left'; answers = w.answers; words = w.words; written = written'; accepts = w.accepts }) e (settled old)) (sym is) (no_memory old h h' w left' written' same kept)
+pub unread_stops : (allows : FeesAllowed) (old : Stood) (h h' : Held) (w : World) (left' written' : Option (List ℕ)) (end : End) (fault : HttpFault) → Refuses h h' w.left left' fault → Unread (now old) fault w.written written' end
+    → Stops allows (here old h w) (record { left = left'; answers = w.answers; words = w.words; written = written'; accepts = w.accepts }) end (settled old)
+unread_stops allows old h h' w left' written' end (http.BadHttp at) (same, place, is) told = refused allows old h h' w left' end written' (refusals.BadHttp at) _ same (place, is) refl told
+unread_stops allows old h h' w left' written' end (http.LengthRequired at) (same, place, is) told = refused allows old h h' w left' end written' (refusals.LengthRequired at) _ same (place, is) refl told
+unread_stops allows old h h' w left' written' end (http.TooLarge at) (same, place, is) told = refused allows old h h' w left' end written' (refusals.RequestTooLarge at) _ same (place, is) refl told
+unread_stops allows old h h' w left' written' end http.ReadFault (same, none) (is, kept) =
+    subst (λ (e : End). Stops allows (here old h w) (record { left = left'; answers = w.answers; words = w.words; written = written'; accepts = w.accepts }) e (settled old)) (sym is) (read_fault allows old h h' w left' written' same none kept)
+unread_stops allows old h h' w left' written' end http.Memory same (is, kept) =
+    subst (λ (e : End). Stops allows (here old h w) (record { left = left'; answers = w.answers; words = w.words; written = written'; accepts = w.accepts }) e (settled old)) (sym is) (no_memory allows old h h' w left' written' same kept)
 
 pub takes_short : (h h' : Held) (left left' : Option (List ℕ)) (raw : Raw) → Takes h h' left left' raw → h'.at ≤ h.at + 81920
 takes_short h h' left left' raw takes = omega (arith, takes.at, takes.limit)

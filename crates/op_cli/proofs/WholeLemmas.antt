@@ -4,15 +4,17 @@ use Rattle.std.proofs.lemmas.List.{append-nil}
 use Rattle.std.specs.declared.option.Option.{Option}
 use Rattle.std.specs.Io.KnownBytes.{Consumes, Appends, Keeps}
 use Rattle.op_model.specs.Printed.{printed}
-use Rattle.op_model.specs.Program.{code_of}
 use Rattle.op_model.specs.Requests.{IsEnded}
-use Rattle.op_model.specs.Session.{Final, Session, begun, texts, replies, IsComplete, IsRefusal}
-use Rattle.op_model.specs.Turn.{Standing, Turn, Run, refusal_reply}
-use Rattle.op_model.specs.World.{World}
+use Rattle.op_model.specs.Round.{FeesAllowed, refusal_reply}
 use Rattle.op_model.specs.declared.act.Entry.{Entry}
-use Rattle.op_model.specs.declared.end.End.{End}
-use Rattle.op_model.specs.declared.end.End.TheVariants as ends
 use Rattle.op_model.specs.declared.reply.Refusal.{Refusal}
+use Rattle.op_session.specs.Program.{code_of}
+use Rattle.op_session.specs.Session.{Final, Session, begun, texts, replies, IsComplete, IsRefusal}
+use Rattle.op_session.specs.Stood.{Stood, now}
+use Rattle.op_session.specs.Turn.{Standing, Turn, Run}
+use Rattle.op_session.specs.World.{World}
+use Rattle.op_session.specs.declared.end.End.{End}
+use Rattle.op_session.specs.declared.end.End.TheVariants as ends
 
 -- ---- steps of a stream that is told
 
@@ -41,8 +43,8 @@ record IsRead (first : Standing) (turns : List Turn) (last : Standing) (bytes ol
   at : last.at ≡ first.at + length (texts turns)
   count : last.answered ≡ first.answered + length turns
 
-run_reads : (turns : List Turn) (first last : Standing) (bytes old : List ℕ) → Run first turns last → first.world.left ≡ Some bytes → first.world.written ≡ Some old → IsRead first turns last bytes old
-run_reads [] first last bytes old run l w = record {
+run_reads : (allows : FeesAllowed) (turns : List Turn) (first last : Standing) (bytes old : List ℕ) → Run allows first turns last → first.world.left ≡ Some bytes → first.world.written ≡ Some old → IsRead first turns last bytes old
+run_reads allows [] first last bytes old run l w = record {
   rest = bytes;
   left = ap (λ s. s.world.left) run ∙ l;
   read = refl;
@@ -50,10 +52,10 @@ run_reads [] first last bytes old run l w = record {
   at = omega (arith, ap (λ s. s.at) run);
   count = omega (arith, ap (λ s. s.answered) run);
 }
-run_reads (turn ∷ turns) first last bytes old (mid, is, run) l w =
+run_reads allows (turn ∷ turns) first last bytes old (mid, is, run) l w =
     let read = consumes_told first.world.left mid.world.left turn.text bytes l is.begun.read in
     let wrote = appends_told first.world.written mid.world.written (printed turn.reply) old w is.written in
-    let more = run_reads turns mid last read.0 (old ++ printed turn.reply) run read.1 wrote in
+    let more = run_reads allows turns mid last read.0 (old ++ printed turn.reply) run read.1 wrote in
     record {
       rest = more.rest;
       left = more.left;
@@ -73,10 +75,10 @@ nothing_behind new old replied e = e ∙ ap (λ (k : List ℕ). Some (old ++ k))
 
 -- ---- a whole session
 
-module _ (before after : World) (first : List Entry) (final : Final) where
-  pub complete : (end : End) (s : Session (begun first before) after end final) (bytes old : List ℕ) → before.left ≡ Some bytes → before.written ≡ Some old → IsComplete end s.turns final bytes old after.written
+module _ (allows : FeesAllowed) (before after : World) (first : List Entry) (final : Final) where
+  pub complete : (end : End) (s : Session allows (begun first before) after end final) (bytes old : List ℕ) → before.left ≡ Some bytes → before.written ≡ Some old → IsComplete end s.turns final bytes old after.written
   complete ends.Done s bytes old l w =
-      let r = run_reads s.turns (begun first before) s.last bytes old s.run l w in
+      let r = run_reads allows s.turns (begun first before) s.last bytes old s.run l w in
       let cause = s.ends.cause in
       let end = consumes_told s.last.world.left after.left s.ends.since.held r.rest r.left s.ends.read in
       let empty : end.0 ≡ [] = rw end.1 at cause.2 in (
@@ -88,23 +90,23 @@ module _ (before after : World) (first : List Entry) (final : Final) where
         },
       )
   complete ends.Malformed s bytes old l w =
-      let r = run_reads s.turns (begun first before) s.last bytes old s.run l w in
+      let r = run_reads allows s.turns (begun first before) s.last bytes old s.run l w in
       let cause = s.ends.cause in
       let refusal : Refusal = cause.0 in
       let at : s.last.at ≡ length (texts s.turns) = omega (arith, r.at) in
-      let same : s.last.history ≡ final.stands = sym (ap (λ (f : Final). f.stands) cause.6) in (
+      let same : s.last.stood ≡ final.stands = sym (ap (λ (f : Final). f.stands) cause.6) in (
         r.rest,
         refusal,
         subst (λ (n : ℕ). IsRefusal refusal n (Some r.rest)) at (subst (λ (left : Option (List ℕ)). IsRefusal refusal s.last.at left) r.left cause.2),
         record {
           read = r.read;
           written = appends_told s.last.world.written after.written _ (old ++ replies s.turns) r.written cause.5
-              ∙ ap Some (append_assoc old (replies s.turns) (printed (refusal_reply s.last.history refusal))
-              ∙ ap (λ (h : List Entry). old ++ (replies s.turns ++ printed (refusal_reply h refusal))) same);
+              ∙ ap Some (append_assoc old (replies s.turns) (printed (refusal_reply (now s.last.stood) refusal))
+              ∙ ap (λ (h : Stood). old ++ (replies s.turns ++ printed (refusal_reply (now h) refusal))) same);
         },
       )
   complete ends.TurnLimit s bytes old l w =
-      let r = run_reads s.turns (begun first before) s.last bytes old s.run l w in
+      let r = run_reads allows s.turns (begun first before) s.last bytes old s.run l w in
       let cause = s.ends.cause in (
         r.rest,
         omega (arith, r.count, cause.0),

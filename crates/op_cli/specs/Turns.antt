@@ -1,5 +1,5 @@
 -- The parts of a turn.
-use Rattle.std.specs.Prelude.{◌≡◌, ◌≢◌, ◌⊎◌, ◌+◌, ◌<◌, ℕ, Bool, true, List, [], ◌∷◌, length}
+use Rattle.std.specs.Prelude.{◌≡◌, ◌≢◌, ◌⊎◌, ◌+◌, ◌<◌, ℕ, Bool, true, List, [], ◌∷◌, ◌++◌, length}
 use Rattle.std.specs.Io.KnownBytes.{Appends, Keeps}
 use Rattle.std.specs.declared.option.Option.{Option}
 use Rattle.std.specs.declared.result.Result.{Result}
@@ -14,47 +14,50 @@ use Rattle.op_ports.specs.Sink.{AppendsFront}
 use Rattle.op_ports.specs.Words.{DrawsKnown}
 use Rattle.op_model.specs.History.{moment_of_turn}
 use Rattle.op_model.specs.Legal.{keeps_forms}
-use Rattle.op_model.specs.Meant.{meant}
+use Rattle.op_model.specs.Meant.{meant_so_far}
 use Rattle.op_model.specs.Printed.{printed}
 use Rattle.op_model.specs.Requests.{Raw}
-use Rattle.op_model.specs.Session.{Final, Ends, Writing, settled, tried_after, unfit_after}
-use Rattle.op_model.specs.Turn.{Standing, Turn, IsTurn, IsReplied, turn_limit, refusal_reply}
+use Rattle.op_model.specs.Round.{FeesAllowed, refusal_reply}
 use Rattle.op_model.specs.Verdicts.{verdict_of}
-use Rattle.op_model.specs.World.{World}
 use Rattle.op_model.specs.declared.act.Entry.{Entry}
-use Rattle.op_model.specs.declared.end.End.{End}
-use Rattle.op_model.specs.declared.end.End.TheVariants as ends
 use Rattle.op_model.specs.declared.reply.Reply.{Reply}
 use Rattle.op_model.specs.declared.reply.Refusal.{Refusal}
 use Rattle.op_model.specs.declared.reply.Refusal.TheVariants.{BadHttp, LengthRequired, RequestTooLarge, DiskFault, JournalFull}
 use Rattle.op_model.specs.declared.request.Request.{Request}
 use Rattle.op_model.specs.declared.request.Task.{Task}
 use Rattle.op_model.specs.declared.request.Verdict.{Verdict}
+use Rattle.op_session.specs.Session.{Final, Ends, Writing, settled, tried_after, unfit_after}
+use Rattle.op_session.specs.Stood.{Stood, now, with_entries}
+use Rattle.op_session.specs.Turn.{Standing, Turn, IsTurn, IsReplied, turn_limit}
+use Rattle.op_session.specs.World.{World}
+use Rattle.op_session.specs.declared.end.End.{End}
+use Rattle.op_session.specs.declared.end.End.TheVariants as ends
 
 -- where a session stands: what the reader holds is still to be read
-abbrev pub here : List Entry → Held → World → ℕ → Standing
-here history held world answered =
-    record { history = history; answered = answered; at = held.at; world = record world { left = stream held world.left } }
+abbrev pub here : Stood → Held → World → ℕ → Standing
+here stood held world answered =
+    record { stood = stood; answered = answered; at = held.at; world = record world { left = stream held world.left } }
 
 -- from each count of requests below the limit, the one standing leads to the other by a turn
-abbrev pub Turns : (old new : ℕ → Standing) → Type 0
-Turns old new = (n : ℕ) → n < turn_limit → (turn : Turn) × IsTurn (old n) turn (new (n + 1))
+abbrev pub Turns : FeesAllowed → (old new : ℕ → Standing) → Type 0
+Turns allows old new = (n : ℕ) → n < turn_limit → (turn : Turn) × IsTurn allows (old n) turn (new (n + 1))
 
 -- from each count of requests below the limit, the session ends
-abbrev pub Stops : (old : ℕ → Standing) → World → End → Final → Type 0
-Stops old after end final = (n : ℕ) → n < turn_limit → Ends end (old n) after final
+abbrev pub Stops : FeesAllowed → (old : ℕ → Standing) → World → End → Final → Type 0
+Stops allows old after end final = (n : ℕ) → n < turn_limit → Ends allows end (old n) after final
 
 -- ---- one request, once it was read
 
 -- a turn with these parts
-abbrev pub turn_of : (text : List ℕ) → Raw → Verdict → ℕ → List ℕ → Bool → Reply → Turn
-turn_of text raw verdict answer word wanted reply =
-    record { text = text; raw = raw; verdict = verdict; answer = answer; word = word; wanted_memory = wanted; reply = reply }
+abbrev pub turn_of : (text : List ℕ) → Raw → Verdict → ℕ → List ℕ → ℕ → Bool → Reply → Turn
+turn_of text raw verdict answer word fee wanted reply =
+    record { text = text; raw = raw; verdict = verdict; answer = answer; word = word; fee = fee; wanted_memory = wanted; reply = reply }
 
--- what was meant by whom has its reply in a turn at which the clock gave this answer and this word was drawn
-abbrev pub Answers : (old : List Entry) → Verdict → (answer : ℕ) (word : List ℕ) → Result Request Refusal → Reply → (new : List Entry) → Type 0
-Answers old verdict answer word asked reply new =
-    (wanted : Bool) × ((text : List ℕ) (raw : Raw) → IsReplied old (turn_of text raw verdict answer word wanted reply) asked new)
+-- what was meant by whom has its reply, and adds these entries, in a turn at which the clock gave this answer and this word was
+-- drawn
+abbrev pub Answers : FeesAllowed → (old : List Entry) → Verdict → (answer : ℕ) (word : List ℕ) → Result Request Refusal → Reply → (entries : List Entry) → Type 0
+Answers allows old verdict answer word asked reply entries =
+    (fee : ℕ) × (wanted : Bool) × ((text : List ℕ) (raw : Raw) → IsReplied allows old (turn_of text raw verdict answer word fee wanted reply) asked (old ++ entries))
 
 -- ---- a round of one task
 
@@ -64,66 +67,70 @@ pub record IsFit (request : Request) : Type 0 where
   pub forms : keeps_forms request ≡ true
 
 -- the task is handled in a turn at which the clock gave this answer and this word was drawn, and its reply is written
-abbrev pub Handled : (old new : List Entry) (written written' : Option (List ℕ)) → ℕ → List ℕ → Task → Type 0
-Handled old new written written' answer word task =
-    (reply : Reply) × Handles old (moment_of_turn old answer) 0 task word reply new × Appends written written' (printed reply)
+abbrev pub Handled : FeesAllowed → (old entries : List Entry) (written written' : Option (List ℕ)) → ℕ → List ℕ → Task → Type 0
+Handled allows old entries written written' answer word task =
+    (reply : Reply) × Handles allows old (moment_of_turn old answer) 0 task word reply (old ++ entries) × Appends written written' (printed reply)
 
--- of a round from one history to another with this text as its reply: what is written where the text is not, or not whole
-abbrev pub NotStood : (old new : List Entry) (written written' : Option (List ℕ)) → List ℕ → End → Final → Type 0
-NotStood old new written written' text ends.WriteFault final =
-    (AppendsFront written written' text × (final ≡ settled new))
-    ⊎ ((new ≢ old) × AppendsFront written written' (printed (refusal_reply old DiskFault)) × (final ≡ tried_after old new))
-    ⊎ ((new ≢ old) × AppendsFront written written' (printed (refusal_reply old JournalFull)) × (final ≡ unfit_after old new))
-NotStood old new written written' text ends.DiskFault final = (new ≢ old) × Appends written written' (printed (refusal_reply old DiskFault)) × (final ≡ tried_after old new)
-NotStood old new written written' text ends.JournalFull final = (new ≢ old) × Appends written written' (printed (refusal_reply old JournalFull)) × (final ≡ unfit_after old new)
-NotStood old new written written' text _ final = ⊥
+-- of a round of these entries with this text as its reply: what is written where the text is not, or not whole
+abbrev pub NotStood : (old : Stood) (entries : List Entry) (written written' : Option (List ℕ)) → List ℕ → End → Final → Type 0
+NotStood old entries written written' text ends.WriteFault final =
+    (AppendsFront written written' text × (final ≡ settled (with_entries old entries)))
+    ⊎ ((entries ≢ []) × AppendsFront written written' (printed (refusal_reply (now old) DiskFault)) × (final ≡ tried_after old (with_entries old entries)))
+    ⊎ ((entries ≢ []) × AppendsFront written written' (printed (refusal_reply (now old) JournalFull)) × (final ≡ unfit_after old (with_entries old entries)))
+NotStood old entries written written' text ends.DiskFault final =
+    (entries ≢ []) × Appends written written' (printed (refusal_reply (now old) DiskFault)) × (final ≡ tried_after old (with_entries old entries))
+NotStood old entries written written' text ends.JournalFull final =
+    (entries ≢ []) × Appends written written' (printed (refusal_reply (now old) JournalFull)) × (final ≡ unfit_after old (with_entries old entries))
+NotStood old entries written written' text _ final = ⊥
 
 -- why a task's reply is not written whole
-abbrev pub NotHandled : (old : List Entry) (written written' : Option (List ℕ)) → ℕ → List ℕ → Task → End → Final → Type 0
-NotHandled old written written' answer word task ends.OutOfMemory final = Keeps written written' × (final ≡ settled old)
-NotHandled old written written' answer word task end final =
-    (new : List Entry) × (reply : Reply) × Handles old (moment_of_turn old answer) 0 task word reply new × NotStood old new written written' (printed reply) end final
+abbrev pub NotHandled : FeesAllowed → (old : Stood) (written written' : Option (List ℕ)) → ℕ → List ℕ → Task → End → Final → Type 0
+NotHandled allows old written written' answer word task ends.OutOfMemory final = Keeps written written' × (final ≡ settled old)
+NotHandled allows old written written' answer word task end final =
+    (entries : List Entry) × (reply : Reply) × Handles allows (now old) (moment_of_turn (now old) answer) 0 task word reply (now old ++ entries)
+    × NotStood old entries written written' (printed reply) end final
 
 -- ---- what was meant, its reply, and how that is written
 
 -- the reply is written
-abbrev pub Told : (old new : List Entry) (written written' : Option (List ℕ)) → Verdict → ℕ → List ℕ → Result Request Refusal → Type 0
-Told old new written written' verdict answer word asked =
-    (reply : Reply) × Answers old verdict answer word asked reply new × Appends written written' (printed reply)
+abbrev pub Told : FeesAllowed → (old entries : List Entry) (written written' : Option (List ℕ)) → Verdict → ℕ → List ℕ → Result Request Refusal → Type 0
+Told allows old entries written written' verdict answer word asked =
+    (reply : Reply) × Answers allows old verdict answer word asked reply entries × Appends written written' (printed reply)
 
 -- some of it is written
-abbrev pub CutShort : (old : List Entry) (written written' : Option (List ℕ)) → Verdict → ℕ → List ℕ → Result Request Refusal → Final → Type 0
-CutShort old written written' verdict answer word asked final =
-    (new : List Entry) × (reply : Reply) × Answers old verdict answer word asked reply new × AppendsFront written written' (printed reply) × (final ≡ settled new)
+abbrev pub CutShort : FeesAllowed → (old : Stood) (written written' : Option (List ℕ)) → Verdict → ℕ → List ℕ → Result Request Refusal → Final → Type 0
+CutShort allows old written written' verdict answer word asked final =
+    (entries : List Entry) × (reply : Reply) × Answers allows (now old) verdict answer word asked reply entries
+    × AppendsFront written written' (printed reply) × (final ≡ settled (with_entries old entries))
 
 -- the round failed on the disk, or had no room in the journal, and that is written
-abbrev pub Lost : Writing → Refusal → (old : List Entry) (written written' : Option (List ℕ)) → Verdict → ℕ → List ℕ → Result Request Refusal → (List Entry → Final) → Final → Type 0
-Lost writes refusal old written written' verdict answer word asked left final =
-    (new : List Entry) × (reply : Reply) × Answers old verdict answer word asked reply new × (new ≢ old)
-    × writes written written' (printed (refusal_reply old refusal)) × (final ≡ left new)
+abbrev pub Lost : FeesAllowed → Writing → Refusal → (old : Stood) (written written' : Option (List ℕ)) → Verdict → ℕ → List ℕ → Result Request Refusal → (Stood → Final) → Final → Type 0
+Lost allows writes refusal old written written' verdict answer word asked left final =
+    (entries : List Entry) × (reply : Reply) × Answers allows (now old) verdict answer word asked reply entries × (entries ≢ [])
+    × writes written written' (printed (refusal_reply (now old) refusal)) × (final ≡ left (with_entries old entries))
 
 -- why the reply is not written whole
-abbrev pub NotTold : (old : List Entry) (written written' : Option (List ℕ)) → Verdict → ℕ → List ℕ → Result Request Refusal → End → Final → Type 0
-NotTold old written written' verdict answer word asked ends.WriteFault final =
-    CutShort old written written' verdict answer word asked final
-    ⊎ Lost AppendsFront DiskFault old written written' verdict answer word asked (tried_after old) final
-    ⊎ Lost AppendsFront JournalFull old written written' verdict answer word asked (unfit_after old) final
-NotTold old written written' verdict answer word asked ends.DiskFault final = Lost Appends DiskFault old written written' verdict answer word asked (tried_after old) final
-NotTold old written written' verdict answer word asked ends.JournalFull final = Lost Appends JournalFull old written written' verdict answer word asked (unfit_after old) final
-NotTold old written written' verdict answer word asked ends.OutOfMemory final = Keeps written written' × (final ≡ settled old)
-NotTold old written written' verdict answer word asked _ final = ⊥
+abbrev pub NotTold : FeesAllowed → (old : Stood) (written written' : Option (List ℕ)) → Verdict → ℕ → List ℕ → Result Request Refusal → End → Final → Type 0
+NotTold allows old written written' verdict answer word asked ends.WriteFault final =
+    CutShort allows old written written' verdict answer word asked final
+    ⊎ Lost allows AppendsFront DiskFault old written written' verdict answer word asked (tried_after old) final
+    ⊎ Lost allows AppendsFront JournalFull old written written' verdict answer word asked (unfit_after old) final
+NotTold allows old written written' verdict answer word asked ends.DiskFault final = Lost allows Appends DiskFault old written written' verdict answer word asked (tried_after old) final
+NotTold allows old written written' verdict answer word asked ends.JournalFull final = Lost allows Appends JournalFull old written written' verdict answer word asked (unfit_after old) final
+NotTold allows old written written' verdict answer word asked ends.OutOfMemory final = Keeps written written' × (final ≡ settled old)
+NotTold allows old written written' verdict answer word asked _ final = ⊥
 
 -- ---- the same, once the clock was asked and a word was drawn
 
-abbrev pub Replies : (old new : List Entry) (w w' : World) → Raw → Type 0
-Replies old new w w' raw = (answer : ℕ) × (word : List ℕ) × AsksKnown w.answers w'.answers (answer ∷ []) × DrawsKnown w.words w'.words (word ∷ []) × (length word ≡ 16)
-    × Told old new w.written w'.written (verdict_of w.accepts raw) answer word (meant raw)
+abbrev pub Replies : FeesAllowed → (old entries : List Entry) (w w' : World) → Raw → Type 0
+Replies allows old entries w w' raw = (answer : ℕ) × (word : List ℕ) × AsksKnown w.answers w'.answers (answer ∷ []) × DrawsKnown w.words w'.words (word ∷ []) × (length word ≡ 16)
+    × Told allows old entries w.written w'.written (verdict_of w.accepts raw) answer word (meant_so_far raw)
 
-abbrev pub ReplyFails : (old : List Entry) (w w' : World) → Raw → End → Final → Type 0
-ReplyFails old w w' raw ends.WordsFault final = (answer : ℕ) × AsksKnown w.answers w'.answers (answer ∷ []) × DrawsKnown w.words w'.words []
+abbrev pub ReplyFails : FeesAllowed → (old : Stood) (w w' : World) → Raw → End → Final → Type 0
+ReplyFails allows old w w' raw ends.WordsFault final = (answer : ℕ) × AsksKnown w.answers w'.answers (answer ∷ []) × DrawsKnown w.words w'.words []
     × Keeps w.written w'.written × (final ≡ settled old)
-ReplyFails old w w' raw end final = (answer : ℕ) × (word : List ℕ) × AsksKnown w.answers w'.answers (answer ∷ []) × DrawsKnown w.words w'.words (word ∷ []) × (length word ≡ 16)
-    × NotTold old w.written w'.written (verdict_of w.accepts raw) answer word (meant raw) end final
+ReplyFails allows old w w' raw end final = (answer : ℕ) × (word : List ℕ) × AsksKnown w.answers w'.answers (answer ∷ []) × DrawsKnown w.words w'.words (word ∷ []) × (length word ≡ 16)
+    × NotTold allows old w.written w'.written (verdict_of w.accepts raw) answer word (meant_so_far raw) end final
 
 -- a reply that is no act's is not written whole
 abbrev pub NotWritten : Reply → (written written' : Option (List ℕ)) → End → Type 0

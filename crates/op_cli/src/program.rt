@@ -2,8 +2,8 @@
 ghost use Rattle.std.specs.Prelude.{◌≡◌, ◌≢◌, ◌↔◌, ◌⊎◌, List, false, map, string_bytes, IsTrue};
 ghost use Rattle.op_causes.specs.Causes.{Rose};
 ghost use Rattle.op_desk.specs.Spelling.{SpellsSound};
-ghost use Rattle.op_model.specs.Program.{code_of, is_command};
 ghost use Rattle.op_model.specs.declared.act.Entry.{Entry};
+ghost use Rattle.op_session.specs.Program.{code_of, is_command};
 ghost use Rattle.op_cli.specs.Applies.{DoesNotOpen, RunsOn, code_of_fault};
 ghost use Rattle.op_cli.specs.Told.{world_of};
 
@@ -12,8 +12,9 @@ use crate::session::session;
 use crate::words::is_command;
 use op_desk::{Desk, DeskFault};
 use op_disk::Disk;
-use op_model::End;
 use op_ports::{Clock, Sink, Source, Verifier, Words};
+use op_pricing::FeeRule;
+use op_session::End;
 use std::alloc::Global;
 
 /// The exit status where the words are no command.
@@ -54,13 +55,13 @@ fn code_of_fault(fault: DeskFault) -> u8
 }
 
 /// Opens the journal, and runs a session on its history: answers the exit status.
-fn apply<D: Disk, S: Source, K: Sink, C: Clock, W: Words, V: Verifier>(
+fn apply<D: Disk, S: Source, K: Sink, C: Clock, W: Words, V: Verifier, F: FeeRule>(
     alloc: Global,
-    outside: &mut Outside<D, S, K, C, W, V>,
+    outside: &mut Outside<D, S, K, C, W, V, F>,
 ) -> u8
     ensures no_usage { result ≢ 2 }
     ensures replies { DoesNotOpen D.tells D.seen D.moment D.since D.images outside.old.disk outside.new.disk (world_of S.left C.answers W.words K.written V.accepts outside.old) (world_of S.left C.answers W.words K.written V.accepts outside.new) result
-        ⊎ RunsOn D.tells D.seen D.moment D.since D.images D.faults outside.old.disk outside.new.disk (world_of S.left C.answers W.words K.written V.accepts outside.old) (world_of S.left C.answers W.words K.written V.accepts outside.new) result }
+        ⊎ RunsOn F.FeeTerms.allows D.tells D.seen D.moment D.since D.images D.faults outside.old.disk outside.new.disk (world_of S.left C.answers W.words K.written V.accepts outside.old) (world_of S.left C.answers W.words K.written V.accepts outside.new) result }
     ensures illegal { result ≡ 3 → IsTrue D.tells → (history : List Entry) → SpellsSound history (D.seen outside.old.disk) → ⊥ }
     ensures illegal_where { IsTrue D.tells → ((history : List Entry) → SpellsSound history (D.seen outside.old.disk) → ⊥) → (result ≡ 3) ⊎ (result ≡ 5) ⊎ (result ≡ 8) }
     ensures read_cause { result ≡ 4 → Rose (S.faults outside.old.source) (S.faults outside.new.source) }
@@ -85,10 +86,10 @@ fn apply<D: Disk, S: Source, K: Sink, C: Clock, W: Words, V: Verifier>(
 ///
 /// `apply JOURNAL` opens the journal on the disk, reads requests from the source, commits what they make, and writes
 /// their replies to the sink.
-pub fn plain_main<D: Disk, S: Source, K: Sink, C: Clock, W: Words, V: Verifier>(
+pub fn plain_main<D: Disk, S: Source, K: Sink, C: Clock, W: Words, V: Verifier, F: FeeRule>(
     alloc: Global,
     words: &[String],
-    outside: &mut Outside<D, S, K, C, W, V>,
+    outside: &mut Outside<D, S, K, C, W, V, F>,
 ) -> u8
     // Exactly where the words are no command the status is 2, and then nothing is done.
     ensures usage { (result ≡ 2) ↔ (is_command (map string_bytes words.now) ≡ false) }
@@ -96,7 +97,7 @@ pub fn plain_main<D: Disk, S: Source, K: Sink, C: Clock, W: Words, V: Verifier>(
     // Else the journal is not opened, or what is read, asked, drawn and written is a session on the history that its disk
     // spells: with its replies, what a crash leaves at its end and at every moment, and its status.
     ensures replies { result ≢ 2 → DoesNotOpen D.tells D.seen D.moment D.since D.images outside.old.disk outside.new.disk (world_of S.left C.answers W.words K.written V.accepts outside.old) (world_of S.left C.answers W.words K.written V.accepts outside.new) result
-        ⊎ RunsOn D.tells D.seen D.moment D.since D.images D.faults outside.old.disk outside.new.disk (world_of S.left C.answers W.words K.written V.accepts outside.old) (world_of S.left C.answers W.words K.written V.accepts outside.new) result }
+        ⊎ RunsOn F.FeeTerms.allows D.tells D.seen D.moment D.since D.images D.faults outside.old.disk outside.new.disk (world_of S.left C.answers W.words K.written V.accepts outside.old) (world_of S.left C.answers W.words K.written V.accepts outside.new) result }
     // The status is 3 exactly where the disk's bytes spell no legal history, unless the disk failed or memory was wanting.
     ensures illegal { result ≡ 3 → IsTrue D.tells → (history : List Entry) → SpellsSound history (D.seen outside.old.disk) → ⊥ }
     ensures illegal_where { IsTrue D.tells → ((history : List Entry) → SpellsSound history (D.seen outside.old.disk) → ⊥) → (result ≡ 2) ⊎ (result ≡ 3) ⊎ (result ≡ 5) ⊎ (result ≡ 8) }
@@ -123,10 +124,10 @@ pub fn plain_main<D: Disk, S: Source, K: Sink, C: Clock, W: Words, V: Verifier>(
 
 /// What the program does with these words: answers the exit status. So far no command waits for others, and it is
 /// `plain_main`.
-pub fn wallet_main<D: Disk, S: Source, K: Sink, C: Clock, W: Words, V: Verifier>(
+pub fn wallet_main<D: Disk, S: Source, K: Sink, C: Clock, W: Words, V: Verifier, F: FeeRule>(
     alloc: Global,
     words: &[String],
-    outside: &mut Outside<D, S, K, C, W, V>,
+    outside: &mut Outside<D, S, K, C, W, V, F>,
 ) -> u8
     // Exactly where the words are no command the status is 2, and then nothing is done.
     ensures usage { (result ≡ 2) ↔ (is_command (map string_bytes words.now) ≡ false) }
@@ -134,7 +135,7 @@ pub fn wallet_main<D: Disk, S: Source, K: Sink, C: Clock, W: Words, V: Verifier>
     // Else the journal is not opened, or what is read, asked, drawn and written is a session on the history that its disk
     // spells: with its replies, what a crash leaves at its end and at every moment, and its status.
     ensures replies { result ≢ 2 → DoesNotOpen D.tells D.seen D.moment D.since D.images outside.old.disk outside.new.disk (world_of S.left C.answers W.words K.written V.accepts outside.old) (world_of S.left C.answers W.words K.written V.accepts outside.new) result
-        ⊎ RunsOn D.tells D.seen D.moment D.since D.images D.faults outside.old.disk outside.new.disk (world_of S.left C.answers W.words K.written V.accepts outside.old) (world_of S.left C.answers W.words K.written V.accepts outside.new) result }
+        ⊎ RunsOn F.FeeTerms.allows D.tells D.seen D.moment D.since D.images D.faults outside.old.disk outside.new.disk (world_of S.left C.answers W.words K.written V.accepts outside.old) (world_of S.left C.answers W.words K.written V.accepts outside.new) result }
     // The status is 3 exactly where the disk's bytes spell no legal history, unless the disk failed or memory was wanting.
     ensures illegal { result ≡ 3 → IsTrue D.tells → (history : List Entry) → SpellsSound history (D.seen outside.old.disk) → ⊥ }
     ensures illegal_where { IsTrue D.tells → ((history : List Entry) → SpellsSound history (D.seen outside.old.disk) → ⊥) → (result ≡ 2) ⊎ (result ≡ 3) ⊎ (result ≡ 5) ⊎ (result ≡ 8) }

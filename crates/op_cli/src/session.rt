@@ -1,24 +1,25 @@
 //! Sessions: requests from a source, replies to a sink, and what was answered in a journal.
-ghost use Rattle.std.specs.Prelude.{◌≡◌, ◌≢◌, ◌⊎◌, ◌<◌, ◌≤◌, ◌+◌, ◌^◌, ℕ, List, length, false, IsTrue, IsSome, IfSome, Err, OnOk, OnErr, IfErr};
+ghost use Rattle.std.specs.Prelude.{◌≡◌, ◌≢◌, ◌⊎◌, ◌<◌, ◌≤◌, ◌+◌, ◌^◌, ◌++◌, ℕ, List, length, false, IsTrue, IsSome, IfSome, Err, OnOk, OnErr, IfErr};
 ghost use Rattle.std.specs.Io.KnownBytes.{Appends};
 ghost use Rattle.std.specs.Str.{IsUtf8};
 ghost use Rattle.op_causes.specs.Causes.{Rose};
 ghost use Rattle.op_desk.specs.Batches.{history_in};
 ghost use Rattle.op_desk.specs.Built.{is_built_task};
-ghost use Rattle.op_desk.specs.Spelling.{Spells, Stands, history_of};
+ghost use Rattle.op_desk.specs.Spelling.{Stands, history_of};
 ghost use Rattle.op_desk.specs.Wallets.{IsSound, Handles};
 ghost use Rattle.op_model.specs.History.{moment_of_turn};
 ghost use Rattle.op_model.specs.Legal.{is_proper};
 ghost use Rattle.op_model.specs.declared.act.Entry.{Entry};
-ghost use Rattle.op_model.specs.Meant.{meant};
+ghost use Rattle.op_model.specs.Meant.{meant_so_far};
 ghost use Rattle.op_model.specs.Printed.{is_built, is_built_refusal, printed};
-ghost use Rattle.op_model.specs.Session.{Final, Session, begun, settled};
-ghost use Rattle.op_model.specs.Turn.{refusal_reply};
+ghost use Rattle.op_model.specs.Round.{refusal_reply};
 ghost use Rattle.op_model.specs.Verdicts.{verdict_of};
 ghost use Rattle.op_model.specs.declared.request.Task.TheVariants.{Ask};
-ghost use Rattle.op_model.specs.declared.end.End.TheVariants.{ReadFault, WriteFault, DiskFault, WordsFault};
+ghost use Rattle.op_session.specs.Session.{Final, Session, begun, settled};
+ghost use Rattle.op_session.specs.Stood.{now, opened_with, with_entries};
+ghost use Rattle.op_session.specs.declared.end.End.TheVariants.{ReadFault, WriteFault, DiskFault, WordsFault};
 ghost use Rattle.op_ports.specs.Sink.{AppendsFront};
-ghost use Rattle.op_cli.specs.Kept.{history_at, IsReady, Leaves, Kept};
+ghost use Rattle.op_cli.specs.Kept.{history_at, FromEach, IsReady, Leaves, Kept};
 ghost use Rattle.op_cli.specs.Told.{world_of};
 ghost use Rattle.op_cli.specs.Turns.{here, Turns, Stops, IsFit, Handled, NotHandled, NotStood, Told, NotTold, NotWritten, Replies, ReplyFails, RefusalEnds, Unread};
 
@@ -27,9 +28,11 @@ use op_api::{ApiFault, disk_fault_reply, journal_full_reply, prepare};
 use op_desk::{Batch, Desk, RoundFault};
 use op_disk::Disk;
 use op_http::{HttpFault, RawRequest, Reader, write_all};
-use op_model::{End, Refusal, Reply, Request, Task, Verdict, Word};
+use op_model::{Refusal, Reply, Request, Task, Verdict, Word};
 use op_ports::{Clock, Sink, Source, Verifier, Words};
+use op_pricing::{FeeRule, PriceHook};
 use op_reply::print_reply;
+use op_session::End;
 use op_time::Moment;
 use std::alloc::Global;
 
@@ -105,19 +108,20 @@ struct Round {
 }
 
 /// Answers a request in a round, and prints the reply. The round is not committed yet. `None` where memory was wanting.
-fn begin_round(
+fn begin_round<F: FeeRule>(
     alloc: Global,
     task: &Task,
     answer: u64,
     word: &Word,
+    hook: &PriceHook<F>,
     desk: &mut Desk,
 ) -> Option<Round>
     requires whole { IsSome desk.old.wallet }
     requires built { IsTrue (is_built_task task.now) }
     requires proper { IsTrue (is_proper (history_at desk.old) task.now) }
 
-    ensures begun { IfSome result (λ round. (round.batch.begun ≡ history_at desk.old) × (length round.batch.entries ≤ 1)) }
-    ensures answered { IfSome result (λ round. (reply : _) × Handles (history_at desk.old) (moment_of_turn (history_at desk.old) answer) 0 task.now word.now reply (history_in round.batch)
+    ensures begun { IfSome result (λ round. round.batch.begun ≡ history_at desk.old) }
+    ensures answered { IfSome result (λ round. (reply : _) × Handles F.FeeTerms.allows (history_at desk.old) (moment_of_turn (history_at desk.old) answer) 0 task.now word.now reply (history_in round.batch)
         × (round.text.items ≡ printed reply)) }
     ensures running { IfSome result (λ round. (desk.new.closed ≡ false) × (desk.new.tail ≡ desk.old.tail)) }
 {
@@ -125,7 +129,7 @@ fn begin_round(
     let Ok(mut batch) = desk.begin(alloc, t, 1) else {
         return None;
     };
-    let reply = batch.act(word, 0, task);
+    let reply = batch.act(word, hook, 0, task);
     let text = text_of(alloc, reply)?;
     Some(Round { batch, text })
 }
@@ -138,17 +142,15 @@ fn end_round<D: Disk, K: Sink>(
     sink: &mut K,
 ) -> Result<(), End>
     requires running { desk.old.closed ≡ false }
-    requires one { length round.batch.entries ≤ 1 }
     requires stands { IsTrue D.tells → (rounds : List (List Entry)) × (history_of rounds ≡ round.batch.begun) × Stands rounds desk.old.tail (D.seen disk.old) (D.images disk.old) }
-    requires spelled { IsTrue D.tells → (c : List ℕ) → D.images disk.old c → Spells round.batch.begun c }
     requires sound { IsSound round.batch.begun }
 
     ensures whole { OnOk result (history_at desk.new ≡ history_in round.batch) }
     ensures ready { OnOk result (IsReady D.tells desk.new (D.seen disk.new) (D.images disk.new)) }
     ensures told { OnOk result (Appends (K.written sink.old) (K.written sink.new) round.text.items) }
-    ensures stands { OnOk result (Leaves D.tells D.seen D.moment D.since D.images D.faults round.batch.begun (settled (history_in round.batch)) disk.old disk.new) }
-    ensures err { IfErr result (λ end. (final : Final) × NotStood round.batch.begun (history_in round.batch) (K.written sink.old) (K.written sink.new) round.text.items end final
-        × Leaves D.tells D.seen D.moment D.since D.images D.faults round.batch.begun final disk.old disk.new) }
+    ensures stands { OnOk result (FromEach round.batch.begun (λ stood. Leaves D.tells D.seen D.moment D.since D.images D.faults stood (settled (with_entries stood round.batch.entries)) disk.old disk.new)) }
+    ensures err { IfErr result (λ end. FromEach round.batch.begun (λ stood. (final : Final) × NotStood stood round.batch.entries (K.written sink.old) (K.written sink.new) round.text.items end final
+        × Leaves D.tells D.seen D.moment D.since D.images D.faults stood final disk.old disk.new)) }
     ensures disk_cause { result ≡ Err DiskFault → Rose (D.faults disk.old) (D.faults disk.new) }
     ensures disk_kept { result ≢ Err DiskFault → result ≢ Err WriteFault → D.faults disk.new ≡ D.faults disk.old }
     ensures write_cause { result ≡ Err WriteFault → Rose (K.faults sink.old) (K.faults sink.new) }
@@ -165,11 +167,12 @@ fn end_round<D: Disk, K: Sink>(
 }
 
 /// Runs a round of this one request, and writes its reply once its act stands.
-fn run_round<D: Disk, K: Sink>(
+fn run_round<D: Disk, K: Sink, F: FeeRule>(
     alloc: Global,
     task: &Task,
     answer: u64,
     word: &Word,
+    hook: &PriceHook<F>,
     desk: &mut Desk,
     disk: &mut D,
     sink: &mut K,
@@ -179,29 +182,30 @@ fn run_round<D: Disk, K: Sink>(
     requires built { IsTrue (is_built_task task.now) }
     requires proper { IsTrue (is_proper (history_at desk.old) task.now) }
 
-    ensures ok { OnOk result (Handled (history_at desk.old) (history_at desk.new) (K.written sink.old) (K.written sink.new) answer word.now task.now) }
+    ensures ok { OnOk result (FromEach (history_at desk.old) (λ stood. (entries : List Entry) × (history_at desk.new ≡ now stood ++ entries) × Handled F.FeeTerms.allows (now stood) entries (K.written sink.old) (K.written sink.new) answer word.now task.now
+        × Leaves D.tells D.seen D.moment D.since D.images D.faults stood (settled (with_entries stood entries)) disk.old disk.new)) }
     ensures ready { OnOk result (IsReady D.tells desk.new (D.seen disk.new) (D.images disk.new)) }
-    ensures stands { OnOk result (Leaves D.tells D.seen D.moment D.since D.images D.faults (history_at desk.old) (settled (history_at desk.new)) disk.old disk.new) }
-    ensures err { IfErr result (λ end. (final : Final) × NotHandled (history_at desk.old) (K.written sink.old) (K.written sink.new) answer word.now task.now end final
-        × Leaves D.tells D.seen D.moment D.since D.images D.faults (history_at desk.old) final disk.old disk.new) }
+    ensures err { IfErr result (λ end. FromEach (history_at desk.old) (λ stood. (final : Final) × NotHandled F.FeeTerms.allows stood (K.written sink.old) (K.written sink.new) answer word.now task.now end final
+        × Leaves D.tells D.seen D.moment D.since D.images D.faults stood final disk.old disk.new)) }
     ensures disk_cause { result ≡ Err DiskFault → Rose (D.faults disk.old) (D.faults disk.new) }
     ensures disk_kept { result ≢ Err DiskFault → result ≢ Err WriteFault → D.faults disk.new ≡ D.faults disk.old }
     ensures write_cause { result ≡ Err WriteFault → Rose (K.faults sink.old) (K.faults sink.new) }
     ensures write_kept { result ≢ Err WriteFault → K.faults sink.new ≡ K.faults sink.old }
 {
-    match begin_round(alloc, task, answer, word, desk) {
+    match begin_round(alloc, task, answer, word, hook, desk) {
         Some(round) => end_round(round, desk, disk, sink),
         None => Err(End::OutOfMemory),
     }
 }
 
 /// Runs a round of a request that is understood.
-fn run_request<D: Disk, K: Sink>(
+fn run_request<D: Disk, K: Sink, F: FeeRule>(
     alloc: Global,
     request: Request,
     verdict: Verdict,
     answer: u64,
     word: &Word,
+    hook: &PriceHook<F>,
     desk: &mut Desk,
     disk: &mut D,
     sink: &mut K,
@@ -210,18 +214,18 @@ fn run_request<D: Disk, K: Sink>(
     requires sound { IsSound (history_at desk.old) }
     requires fit { IsFit request }
 
-    ensures ok { OnOk result (Handled (history_at desk.old) (history_at desk.new) (K.written sink.old) (K.written sink.new) answer word.now (Ask request verdict)) }
+    ensures ok { OnOk result (FromEach (history_at desk.old) (λ stood. (entries : List Entry) × (history_at desk.new ≡ now stood ++ entries) × Handled F.FeeTerms.allows (now stood) entries (K.written sink.old) (K.written sink.new) answer word.now (Ask request verdict)
+        × Leaves D.tells D.seen D.moment D.since D.images D.faults stood (settled (with_entries stood entries)) disk.old disk.new)) }
     ensures ready { OnOk result (IsReady D.tells desk.new (D.seen disk.new) (D.images disk.new)) }
-    ensures stands { OnOk result (Leaves D.tells D.seen D.moment D.since D.images D.faults (history_at desk.old) (settled (history_at desk.new)) disk.old disk.new) }
-    ensures err { IfErr result (λ end. (final : Final) × NotHandled (history_at desk.old) (K.written sink.old) (K.written sink.new) answer word.now (Ask request verdict) end final
-        × Leaves D.tells D.seen D.moment D.since D.images D.faults (history_at desk.old) final disk.old disk.new) }
+    ensures err { IfErr result (λ end. FromEach (history_at desk.old) (λ stood. (final : Final) × NotHandled F.FeeTerms.allows stood (K.written sink.old) (K.written sink.new) answer word.now (Ask request verdict) end final
+        × Leaves D.tells D.seen D.moment D.since D.images D.faults stood final disk.old disk.new)) }
     ensures disk_cause { result ≡ Err DiskFault → Rose (D.faults disk.old) (D.faults disk.new) }
     ensures disk_kept { result ≢ Err DiskFault → result ≢ Err WriteFault → D.faults disk.new ≡ D.faults disk.old }
     ensures write_cause { result ≡ Err WriteFault → Rose (K.faults sink.old) (K.faults sink.new) }
     ensures write_kept { result ≢ Err WriteFault → K.faults sink.new ≡ K.faults sink.old }
 {
     let task = Task::Ask { request, verdict };
-    run_round(alloc, &task, answer, word, desk, disk, sink)
+    run_round(alloc, &task, answer, word, hook, desk, disk, sink)
 }
 
 /// Writes the refusal of a request that means none.
@@ -245,12 +249,13 @@ fn refuse_one<K: Sink>(
 }
 
 /// Answers a request, and writes its reply.
-fn answer_one<D: Disk, K: Sink, V: Verifier>(
+fn answer_one<D: Disk, K: Sink, V: Verifier, F: FeeRule>(
     alloc: Global,
     raw: &RawRequest,
     verifier: &V,
     answer: u64,
     word: &Word,
+    hook: &PriceHook<F>,
     desk: &mut Desk,
     disk: &mut D,
     sink: &mut K,
@@ -258,11 +263,11 @@ fn answer_one<D: Disk, K: Sink, V: Verifier>(
     requires ready { IsReady D.tells desk.old (D.seen disk.old) (D.images disk.old) }
     requires sound { IsSound (history_at desk.old) }
 
-    ensures ok { OnOk result (Told (history_at desk.old) (history_at desk.new) (K.written sink.old) (K.written sink.new) (verdict_of (V.accepts verifier.now) raw.now) answer word.now (meant raw.now)) }
+    ensures ok { OnOk result (FromEach (history_at desk.old) (λ stood. (entries : List Entry) × (history_at desk.new ≡ now stood ++ entries) × Told F.FeeTerms.allows (now stood) entries (K.written sink.old) (K.written sink.new) (verdict_of (V.accepts verifier.now) raw.now) answer word.now (meant_so_far raw.now)
+        × Leaves D.tells D.seen D.moment D.since D.images D.faults stood (settled (with_entries stood entries)) disk.old disk.new)) }
     ensures ready { OnOk result (IsReady D.tells desk.new (D.seen disk.new) (D.images disk.new)) }
-    ensures stands { OnOk result (Leaves D.tells D.seen D.moment D.since D.images D.faults (history_at desk.old) (settled (history_at desk.new)) disk.old disk.new) }
-    ensures err { IfErr result (λ end. (final : Final) × NotTold (history_at desk.old) (K.written sink.old) (K.written sink.new) (verdict_of (V.accepts verifier.now) raw.now) answer word.now (meant raw.now) end final
-        × Leaves D.tells D.seen D.moment D.since D.images D.faults (history_at desk.old) final disk.old disk.new) }
+    ensures err { IfErr result (λ end. FromEach (history_at desk.old) (λ stood. (final : Final) × NotTold F.FeeTerms.allows stood (K.written sink.old) (K.written sink.new) (verdict_of (V.accepts verifier.now) raw.now) answer word.now (meant_so_far raw.now) end final
+        × Leaves D.tells D.seen D.moment D.since D.images D.faults stood final disk.old disk.new)) }
     ensures disk_cause { result ≡ Err DiskFault → Rose (D.faults disk.old) (D.faults disk.new) }
     ensures disk_kept { result ≢ Err DiskFault → result ≢ Err WriteFault → D.faults disk.new ≡ D.faults disk.old }
     ensures write_cause { result ≡ Err WriteFault → Rose (K.faults sink.old) (K.faults sink.new) }
@@ -270,7 +275,9 @@ fn answer_one<D: Disk, K: Sink, V: Verifier>(
 {
     match prepare(alloc, raw, verifier) {
         Ok((request, verdict)) => {
-            run_request(alloc, request, verdict, answer, word, desk, disk, sink)
+            run_request(
+                alloc, request, verdict, answer, word, hook, desk, disk, sink,
+            )
         }
         Err(ApiFault::Refused(refusal)) => refuse_one(alloc, refusal, desk, sink),
         Err(ApiFault::Memory) => refuse_one(alloc, Refusal::Memory, desk, sink),
@@ -297,20 +304,20 @@ fn unread<K: Sink>(alloc: Global, fault: HttpFault, desk: &Desk, sink: &mut K) -
 }
 
 /// Asks the clock, draws a word, and answers a request.
-fn reply_to<D: Disk, S: Source, K: Sink, C: Clock, W: Words, V: Verifier>(
+fn reply_to<D: Disk, S: Source, K: Sink, C: Clock, W: Words, V: Verifier, F: FeeRule>(
     alloc: Global,
     raw: &RawRequest,
     desk: &mut Desk,
-    outside: &mut Outside<D, S, K, C, W, V>,
+    outside: &mut Outside<D, S, K, C, W, V, F>,
 ) -> Result<(), End>
     requires ready { IsReady D.tells desk.old (D.seen outside.old.disk) (D.images outside.old.disk) }
     requires sound { IsSound (history_at desk.old) }
 
-    ensures ok { OnOk result (Replies (history_at desk.old) (history_at desk.new) (world_of S.left C.answers W.words K.written V.accepts outside.old) (world_of S.left C.answers W.words K.written V.accepts outside.new) raw.now) }
+    ensures ok { OnOk result (FromEach (history_at desk.old) (λ stood. (entries : List Entry) × (history_at desk.new ≡ now stood ++ entries) × Replies F.FeeTerms.allows (now stood) entries (world_of S.left C.answers W.words K.written V.accepts outside.old) (world_of S.left C.answers W.words K.written V.accepts outside.new) raw.now
+        × Leaves D.tells D.seen D.moment D.since D.images D.faults stood (settled (with_entries stood entries)) outside.old.disk outside.new.disk)) }
     ensures ready { OnOk result (IsReady D.tells desk.new (D.seen outside.new.disk) (D.images outside.new.disk)) }
-    ensures stands { OnOk result (Leaves D.tells D.seen D.moment D.since D.images D.faults (history_at desk.old) (settled (history_at desk.new)) outside.old.disk outside.new.disk) }
-    ensures err { IfErr result (λ end. (final : Final) × ReplyFails (history_at desk.old) (world_of S.left C.answers W.words K.written V.accepts outside.old) (world_of S.left C.answers W.words K.written V.accepts outside.new) raw.now end final
-        × Leaves D.tells D.seen D.moment D.since D.images D.faults (history_at desk.old) final outside.old.disk outside.new.disk) }
+    ensures err { IfErr result (λ end. FromEach (history_at desk.old) (λ stood. (final : Final) × ReplyFails F.FeeTerms.allows stood (world_of S.left C.answers W.words K.written V.accepts outside.old) (world_of S.left C.answers W.words K.written V.accepts outside.new) raw.now end final
+        × Leaves D.tells D.seen D.moment D.since D.images D.faults stood final outside.old.disk outside.new.disk)) }
     ensures source { outside.new.source ≡ outside.old.source }
     ensures verifier { outside.new.verifier ≡ outside.old.verifier }
     ensures no_read_fault { result ≢ Err ReadFault }
@@ -329,6 +336,7 @@ fn reply_to<D: Disk, S: Source, K: Sink, C: Clock, W: Words, V: Verifier>(
             &outside.verifier,
             answer,
             &word,
+            &outside.hook,
             desk,
             &mut outside.disk,
             &mut outside.sink,
@@ -338,22 +346,22 @@ fn reply_to<D: Disk, S: Source, K: Sink, C: Clock, W: Words, V: Verifier>(
 }
 
 /// One turn.
-fn turn<D: Disk, S: Source, K: Sink, C: Clock, W: Words, V: Verifier>(
+fn turn<D: Disk, S: Source, K: Sink, C: Clock, W: Words, V: Verifier, F: FeeRule>(
     alloc: Global,
     reader: &mut Reader,
     desk: &mut Desk,
-    outside: &mut Outside<D, S, K, C, W, V>,
+    outside: &mut Outside<D, S, K, C, W, V, F>,
 ) -> Result<(), End>
     requires at { reader.old.at < 2 ^ 60 }
     requires ready { IsReady D.tells desk.old (D.seen outside.old.disk) (D.images outside.old.disk) }
     requires sound { IsSound (history_at desk.old) }
 
-    ensures ok { OnOk result (Turns (here (history_at desk.old) reader.old (world_of S.left C.answers W.words K.written V.accepts outside.old))
-        (here (history_at desk.new) reader.new (world_of S.left C.answers W.words K.written V.accepts outside.new))) }
+    ensures ok { OnOk result (FromEach (history_at desk.old) (λ stood. (entries : List Entry) × (history_at desk.new ≡ now stood ++ entries) × Turns F.FeeTerms.allows (here stood reader.old (world_of S.left C.answers W.words K.written V.accepts outside.old))
+        (here (with_entries stood entries) reader.new (world_of S.left C.answers W.words K.written V.accepts outside.new))
+        × Leaves D.tells D.seen D.moment D.since D.images D.faults stood (settled (with_entries stood entries)) outside.old.disk outside.new.disk)) }
     ensures ready { OnOk result (IsReady D.tells desk.new (D.seen outside.new.disk) (D.images outside.new.disk)) }
-    ensures stands { OnOk result (Leaves D.tells D.seen D.moment D.since D.images D.faults (history_at desk.old) (settled (history_at desk.new)) outside.old.disk outside.new.disk) }
-    ensures err { IfErr result (λ end. (final : Final) × Stops (here (history_at desk.old) reader.old (world_of S.left C.answers W.words K.written V.accepts outside.old)) (world_of S.left C.answers W.words K.written V.accepts outside.new) end final
-        × Leaves D.tells D.seen D.moment D.since D.images D.faults (history_at desk.old) final outside.old.disk outside.new.disk) }
+    ensures err { IfErr result (λ end. FromEach (history_at desk.old) (λ stood. (final : Final) × Stops F.FeeTerms.allows (here stood reader.old (world_of S.left C.answers W.words K.written V.accepts outside.old)) (world_of S.left C.answers W.words K.written V.accepts outside.new) end final
+        × Leaves D.tells D.seen D.moment D.since D.images D.faults stood final outside.old.disk outside.new.disk)) }
     ensures moved { OnOk result (reader.new.at ≤ reader.old.at + 81920) }
     ensures read_cause { result ≡ Err ReadFault → Rose (S.faults outside.old.source) (S.faults outside.new.source) }
     ensures read_kept { result ≢ Err ReadFault → S.faults outside.new.source ≡ S.faults outside.old.source }
@@ -372,15 +380,15 @@ fn turn<D: Disk, S: Source, K: Sink, C: Clock, W: Words, V: Verifier>(
 }
 
 /// A session over the history of a desk: requests are answered in order, until it ends.
-pub fn session<D: Disk, S: Source, K: Sink, C: Clock, W: Words, V: Verifier>(
+pub fn session<D: Disk, S: Source, K: Sink, C: Clock, W: Words, V: Verifier, F: FeeRule>(
     alloc: Global,
     mut desk: Desk,
-    outside: &mut Outside<D, S, K, C, W, V>,
+    outside: &mut Outside<D, S, K, C, W, V, F>,
 ) -> End
     requires ready { IsReady D.tells desk (D.seen outside.old.disk) (D.images outside.old.disk) }
     requires sound { IsSound (history_at desk) }
 
-    ensures session { (final : Final) × Session (begun (history_at desk) (world_of S.left C.answers W.words K.written V.accepts outside.old)) (world_of S.left C.answers W.words K.written V.accepts outside.new) result final
+    ensures session { (final : Final) × Session F.FeeTerms.allows (begun (history_at desk) (world_of S.left C.answers W.words K.written V.accepts outside.old)) (world_of S.left C.answers W.words K.written V.accepts outside.new) result final
         × Kept D.tells D.seen D.moment D.since D.images D.faults (history_at desk) final outside.old.disk outside.new.disk }
     ensures read_cause { result ≡ ReadFault → Rose (S.faults outside.old.source) (S.faults outside.new.source) }
     ensures read_kept { result ≢ ReadFault → S.faults outside.new.source ≡ S.faults outside.old.source }

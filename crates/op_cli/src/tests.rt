@@ -5,6 +5,7 @@ use crate::outside::Outside;
 use crate::program::wallet_main;
 use op_disk::MemoryDisk;
 use op_ports::{MemorySink, MemorySource, TableClock, TableWords, Verifier};
+use op_pricing::{OnePercent, PriceHook};
 use std::alloc::{AllocError, Global};
 use std::test::Fail;
 
@@ -97,6 +98,7 @@ fn apply(alloc: Global, input: &str, outdoors: Outdoors<'_>) -> Result<Run, Allo
         clock: TableClock::new(vec![in alloc; NOON]?),
         draws: TableWords::new(Vec::new(alloc), bad_draws),
         verifier: NoProofs,
+        hook: PriceHook::keep(OnePercent),
     };
     let mut words = Vec::new(alloc);
     words.push(String::from_str(alloc, "apply")?)?;
@@ -488,6 +490,7 @@ fn other_words_are_no_command(rt: HostRuntime) -> Result<(), Fail> {
             clock: TableClock::new(Vec::new(alloc)),
             draws: TableWords::new(Vec::new(alloc), Vec::new(alloc)),
             verifier: NoProofs,
+            hook: PriceHook::keep(OnePercent),
         };
         let mut words = Vec::new(alloc);
         words.push(String::from_str(alloc, "apply")?)?;

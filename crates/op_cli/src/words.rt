@@ -1,6 +1,6 @@
 //! The words of the command line.
 ghost use Rattle.std.specs.Prelude.{◌≡◌, map, string_bytes};
-ghost use Rattle.op_model.specs.Program.{is_command, is_journal};
+ghost use Rattle.op_session.specs.Program.{is_command, is_journal};
 
 /// The longest name of a journal, in bytes.
 const JOURNAL_NAME_LIMIT: usize = 4096;

@@ -17,7 +17,7 @@ use Rattle.op_model.specs.declared.reply.Reply.{Reply}
 use Rattle.op_model.specs.declared.reply.ReplyBody.TheVariants.{AssetAdded}
 use Rattle.op_model.specs.declared.reply.Refusal.TheVariants.{AlreadyExists, Memory}
 use Rattle.op_model.specs.declared.request.Request.TheVariants.{AddAsset}
-use Rattle.op_model.specs.Turn.{refusal_reply}
+use Rattle.op_model.specs.Round.{FeesAllowed, refusal_reply}
 use Rattle.op_model.specs.declared.request.Task.TheVariants.{Ask}
 use Rattle.op_model.specs.declared.request.Verdict.{Verdict}
 use Rattle.op_desk.specs.Answers.{adds, may_add, reply_with}
@@ -150,21 +150,21 @@ not_taken history e code scale pieces is may taken =
 -- ---- the three ways in which an asset is handled
 
 -- it is there
-pub handles_there : (history : List Entry) (t place : ℕ) (asset : Asset) (pieces : ℕ) (verdict : Verdict) (word : List ℕ) (reply : Reply) → list_any (adds asset) history ≡ true → reply ≡ refusal_reply history AlreadyExists
-    → Handles history t place (Ask (AddAsset asset pieces) verdict) word reply history
-handles_there history t place asset pieces verdict word reply there is =
+pub handles_there : (allows : FeesAllowed) (history : List Entry) (t place : ℕ) (asset : Asset) (pieces : ℕ) (verdict : Verdict) (word : List ℕ) (reply : Reply) → list_any (adds asset) history ≡ true → reply ≡ refusal_reply history AlreadyExists
+    → Handles allows history t place (Ask (AddAsset asset pieces) verdict) word reply history
+handles_there allows history t place asset pieces verdict word reply there is =
     let found : is_some (asset_number history asset) ≡ true = sym (any_adds asset history) ∙ there in
-    (false, inr (refl, refl, rw found is, rw found (sym (append-nil history))))
+    (0, false, inr (refl, refl, rw found is, rw found (sym (append-nil history))))
 
 -- it is added
-pub handles_new : (history new : List Entry) (t place : ℕ) (asset : Asset) (pieces : ℕ) (verdict : Verdict) (word : List ℕ) (reply : Reply) → list_any (adds asset) history ≡ false
+pub handles_new : (allows : FeesAllowed) (history new : List Entry) (t place : ℕ) (asset : Asset) (pieces : ℕ) (verdict : Verdict) (word : List ℕ) (reply : Reply) → list_any (adds asset) history ≡ false
     → new ≡ history ++ record { at = t; act = acts.AssetAdded asset.code asset.scale pieces } ∷ []
-    → reply ≡ reply_with new (AssetAdded asset pieces) → Handles history t place (Ask (AddAsset asset pieces) verdict) word reply new
-handles_new history new t place asset pieces verdict word reply free grown is =
+    → reply ≡ reply_with new (AssetAdded asset pieces) → Handles allows history t place (Ask (AddAsset asset pieces) verdict) word reply new
+handles_new allows history new t place asset pieces verdict word reply free grown is =
     let found : is_some (asset_number history asset) ≡ false = sym (any_adds asset history) ∙ free in
-    (false, inr (refl, refl, rw found (is ∙ ap (λ (h : List Entry). reply_with h (AssetAdded asset pieces)) grown), rw found grown))
+    (0, false, inr (refl, refl, rw found (is ∙ ap (λ (h : List Entry). reply_with h (AssetAdded asset pieces)) grown), rw found grown))
 
 -- memory is wanting
-pub handles_wanting : (history : List Entry) (t place : ℕ) (asset : Asset) (pieces : ℕ) (verdict : Verdict) (word : List ℕ) (reply : Reply) → reply ≡ refusal_reply history Memory
-    → Handles history t place (Ask (AddAsset asset pieces) verdict) word reply history
-handles_wanting history t place asset pieces verdict word reply is = (true, inl (refl, (tt, ap (λ (r : Reply). r.body) is), refl))
+pub handles_wanting : (allows : FeesAllowed) (history : List Entry) (t place : ℕ) (asset : Asset) (pieces : ℕ) (verdict : Verdict) (word : List ℕ) (reply : Reply) → reply ≡ refusal_reply history Memory
+    → Handles allows history t place (Ask (AddAsset asset pieces) verdict) word reply history
+handles_wanting allows history t place asset pieces verdict word reply is = (0, true, inl (refl, (tt, ap (λ (r : Reply). r.body) is), refl))

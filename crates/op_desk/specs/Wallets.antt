@@ -3,8 +3,7 @@ use Rattle.std.specs.Prelude.{ℕ, Bool, List, ◌++◌, IsTrue}
 use Rattle.std.specs.Option.{option_to_list}
 use Rattle.std.specs.declared.option.Option.{Option}
 use Rattle.op_model.specs.Legal.{IsNext, IsLegal}
-use Rattle.op_model.specs.Round.{Handled, IsHandledNext}
-use Rattle.op_model.specs.Turn.{NoTerms}
+use Rattle.op_model.specs.Round.{FeesAllowed, Handled, IsHandledNext}
 use Rattle.op_model.specs.declared.act.Entry.{Entry}
 use Rattle.op_model.specs.declared.reply.Reply.{Reply}
 use Rattle.op_model.specs.declared.request.Task.{Task}
@@ -25,14 +24,15 @@ pub record IsTaken (history : List Entry) (entry : Entry) : Type 0 where
   pub next : IsNext history entry
   pub built : IsTrue (is_built entry.act)
 
--- a task as it was handled, at this place of its round; no fee is asked so far
-abbrev pub handled_at : (place : ℕ) → Task → (word : List ℕ) → (wanted : Bool) → Reply → Handled
-handled_at place task word wanted reply =
-    record { task = task; word = word; fee = 0; place = place; wanted_memory = wanted; reply = reply }
+-- a task as it was handled, at this place of its round
+abbrev pub handled_at : (place : ℕ) → Task → (word : List ℕ) → (fee : ℕ) → (wanted : Bool) → Reply → Handled
+handled_at place task word fee wanted reply =
+    record { task = task; word = word; fee = fee; place = place; wanted_memory = wanted; reply = reply }
 
--- the plain wallet's answer to a task at a moment, at this place of its round, or want of memory
-abbrev pub Handles : (old : List Entry) → (t place : ℕ) → Task → (word : List ℕ) → Reply → (new : List Entry) → Type 0
-Handles old t place task word reply new = (wanted : Bool) × IsHandledNext NoTerms old t (handled_at place task word wanted reply) new
+-- the plain wallet's answer to a task at a moment, at this place of its round and with a fee that the terms allow, or want of memory
+abbrev pub Handles : FeesAllowed → (old : List Entry) → (t place : ℕ) → Task → (word : List ℕ) → Reply → (new : List Entry) → Type 0
+Handles allows old t place task word reply new =
+    (fee : ℕ) × (wanted : Bool) × IsHandledNext allows old t (handled_at place task word fee wanted reply) new
 
 -- the history with the entry at its end, if there is one
 abbrev pub with_entry : List Entry → Option Entry → List Entry

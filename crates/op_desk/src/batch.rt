@@ -15,6 +15,7 @@ ghost use Rattle.op_desk.specs.Wallets.{WalletValue, IsSound, Handles, with_entr
 use crate::Wallet;
 use op_model::{Entry, Refusal, Reply, Task, Word};
 use op_names::Origin;
+use op_pricing::{FeeRule, PriceHook};
 use op_record::write_entry;
 use op_time::Moment;
 use std::alloc::{AllocError, Global};
@@ -159,14 +160,20 @@ impl Batch {
     }
 
     /// Answers the task of this index as the plain wallet does, at the round's moment, on the history with the round's
-    /// entries so far. The number of these is the task's place. Only a request takes memory, and it is refused where memory
-    /// is short, which adds nothing.
-    pub fn act(&mut self, word: &Word, index: u64, task: &Task) -> Reply
+    /// entries so far, with a fee of the hook's rule where one is asked. The number of these entries is the task's place.
+    /// Only a request takes memory, and it is refused where memory is short, which adds nothing.
+    pub fn act<F: FeeRule>(
+        &mut self,
+        word: &Word,
+        hook: &PriceHook<F>,
+        index: u64,
+        task: &Task,
+    ) -> Reply
         requires index { slice_get self.old.used index ≡ Some false }
         requires built { IsTrue (is_built_task task.now) }
         requires proper { IsTrue (is_proper (history_in self.old) task.now) }
 
-        ensures handled { Handles (history_in self.old) self.old.moment (length self.old.entries) task.now word.now result (history_in self.new) }
+        ensures handled { Handles F.FeeTerms.allows (history_in self.old) self.old.moment (length self.old.entries) task.now word.now result (history_in self.new) }
         ensures sound { IsSound (history_in self.new) }
         ensures entries { (entry : _) × (self.new.entries ≡ with_entry self.old.entries entry) }
         ensures places { self.new.places ≡ slice_set self.old.places index (length self.old.entries) }
@@ -181,7 +188,7 @@ impl Batch {
             Ok(()) => {}
             Err(_) => return self.wallet.refusal(Refusal::Memory),
         }
-        let outcome = self.wallet.answer(self.moment, word, task);
+        let outcome = self.wallet.answer(self.moment, word, hook, task);
         put_record(&outcome.entry, &mut self.scratch, &mut self.body);
         outcome.reply
     }

@@ -8,6 +8,7 @@ use crate::{Committed, Desk, DeskFault, RoundFault};
 use op_amount::{Asset, AssetCode};
 use op_disk::MemoryDisk;
 use op_model::{Request, Task, Verdict};
+use op_pricing::{OnePercent, PriceHook};
 use op_time::Moment;
 use std::alloc::{AllocError, Global};
 
@@ -61,7 +62,7 @@ fn add(
     let Ok(mut batch) = desk.begin(alloc, t, 1) else {
         return Err(DeskFault::Memory);
     };
-    let _reply = batch.act(&[0; 16], 0, &request(code));
+    let _reply = batch.act(&[0; 16], &PriceHook::keep(OnePercent), 0, &request(code));
     Ok(desk.close_round(disk, batch))
 }
 

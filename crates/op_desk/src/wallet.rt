@@ -6,7 +6,7 @@ ghost use Rattle.op_model.specs.History.{last_moment, origin_of};
 ghost use Rattle.op_model.specs.Legal.{is_proper, keeps_forms};
 ghost use Rattle.op_time.specs.declared.TheConstants.{LAST};
 ghost use Rattle.op_model.specs.Printed as printed;
-ghost use Rattle.op_model.specs.Turn.{refusal_reply};
+ghost use Rattle.op_model.specs.Round.{refusal_reply};
 ghost use Rattle.op_model.specs.declared.act.Act.TheVariants.{AssetAdded};
 ghost use Rattle.op_model.specs.declared.request.Request.TheVariants.{AddAsset};
 ghost use Rattle.op_model.specs.declared.request.Task.TheVariants.{Ask};
@@ -17,9 +17,10 @@ ghost use Rattle.op_desk.specs.Built.{is_built, is_built_task};
 ghost use Rattle.op_desk.specs.Wallets.{WalletValue, IsSound, IsTaken, Handles, with_entry};
 
 use crate::LoadFault;
-use op_amount::{Asset, AssetCode};
+use op_amount::{Asset, AssetCode, FeeTerms};
 use op_model::{Act, CodeText, Entry, Refusal, Reply, ReplyBody, Request, Task, Word};
 use op_names::Origin;
+use op_pricing::{FeeRule, PriceHook};
 use op_time::Moment;
 use std::alloc::{AllocError, Global};
 use std::marker::Model;
@@ -256,10 +257,10 @@ impl Wallet {
         Ok(())
     }
 
-    fn add_asset(&mut self, t: Moment, asset: &Asset, pieces: u8) -> Outcome
+    fn add_asset<F: FeeTerms>(&mut self, t: Moment, asset: &Asset, pieces: u8) -> Outcome
         requires later { last_moment self.old.history ≤ t }
         requires proper { IsTrue (keeps_forms (AddAsset asset.now pieces)) }
-        ensures handled { (place : ℕ) (verdict : Verdict) (word : List ℕ) → Handles self.old.history t place (Ask (AddAsset asset.now pieces) verdict) word result.reply self.new.history }
+        ensures handled { (place : ℕ) (verdict : Verdict) (word : List ℕ) → Handles F.allows self.old.history t place (Ask (AddAsset asset.now pieces) verdict) word result.reply self.new.history }
         ensures entry { self.new.history ≡ with_entry self.old.history result.entry }
         ensures recorded { IfSome result.entry (λ e. (e.at ≡ t) × HasRecord e × IsTrue (is_built e.act)) }
         ensures origin { result.reply.origin ≡ origin_of self.new.history }
@@ -286,13 +287,19 @@ impl Wallet {
 
     /// Answers a task at a moment as the plain wallet does: its reply, and its act at the end of the history. A request may
     /// be refused for want of memory instead, which changes nothing. The task's act has to be built; `word` are its
-    /// sixteen drawn bytes.
-    pub fn answer(&mut self, t: Moment, word: &Word, task: &Task) -> Outcome
+    /// sixteen drawn bytes. No task that is built has a price, so the hook is not asked yet.
+    pub fn answer<F: FeeRule>(
+        &mut self,
+        t: Moment,
+        word: &Word,
+        _hook: &PriceHook<F>,
+        task: &Task,
+    ) -> Outcome
         requires later { last_moment self.old.history ≤ t }
         requires built { IsTrue (is_built_task task.now) }
         requires proper { IsTrue (is_proper self.old.history task.now) }
 
-        ensures handled { (place : ℕ) → Handles self.old.history t place task.now word.now result.reply self.new.history }
+        ensures handled { (place : ℕ) → Handles F.FeeTerms.allows self.old.history t place task.now word.now result.reply self.new.history }
         ensures entry { self.new.history ≡ with_entry self.old.history result.entry }
         ensures recorded { IfSome result.entry (λ e. (e.at ≡ t) × HasRecord e × IsTrue (is_built e.act)) }
         ensures origin { result.reply.origin ≡ origin_of self.new.history }
@@ -306,6 +313,6 @@ impl Wallet {
         let Request::AddAsset { asset, pieces } = request else {
             unreachable!()
         };
-        self.add_asset(t, asset, *pieces)
+        self.add_asset::<F>(t, asset, *pieces)
     }
 }

@@ -10,14 +10,18 @@ use std::fs::{self, File, Files, OpenOptions};
 use std::io;
 use std::os::unix::fs::FileExt;
 
-/// A disk on a file of the system, which it opens at its first call.
+/// A disk on a file of the system, which it opens and locks at its first call.
 ///
-/// A missing file is created. Before the first call goes on, the directory that the file stands in is synced, so that the
-/// name of a new file is as durable as its bytes. That holds for the last directory of the path alone: std offers no
-/// way to learn whether directories above it were made just now, and nothing at all of what the device under the system
-/// keeps.
+/// A missing file is created. Before anything of the file is read, asked or written, its exclusive lock is taken (`flock`),
+/// and it is kept as long as the disk lives. While another open of the file holds the lock, here or in another process,
+/// each call fails, and each one tries again. The lock is advisory: it keeps away only those who ask for it.
 ///
-/// It tells no bytes. Each error of the system, and a part of the file that cannot be read whole, is a fault and counted.
+/// Before the first call goes on, the directory that the file stands in is synced, so that the name of a new file is as
+/// durable as its bytes. That holds for the last directory of the path alone: std offers no way to learn whether
+/// directories above it were made just now, and nothing at all of what the device under the system keeps.
+///
+/// It tells no bytes. Each error of the system, a lock that is refused, and a part of the file that cannot be read whole,
+/// is a fault and counted.
 #[derive(Drop)]
 pub struct FileDisk<R: Files<File = File> + Drop> {
     files: R,
@@ -132,8 +136,9 @@ fn sync<R: Files<File = File>>(files: &R, path: &str, slot: &mut Option<File>) -
     file.sync_data()
 }
 
-// The file, opened where it is not open yet. The directory is synced even where the file was there: an earlier run may
-// have created it and stopped before its name was durable.
+// The file, opened and locked where it is not open yet. It is kept only once it is locked: an error closes it again. The
+// directory is synced even where the file was there: an earlier run may have created it and stopped before its name was
+// durable.
 fn opened<'a, R: Files<File = File>>(
     files: &R,
     path: &str,
@@ -145,6 +150,7 @@ fn opened<'a, R: Files<File = File>>(
             .write(true)
             .create(true)
             .open(files, path)?;
+        file.try_lock()?;
         File::open(files, directory_of(path))?.sync_all()?;
         *slot = Some(file);
     }
@@ -182,5 +188,31 @@ mod tests {
         let kept = fs::read(&rt, "file_disk_test")?;
         assert!(rt; kept.as_slice() == b"watert".as_slice());
         fs::remove_file(&rt, "file_disk_test")
+    }
+
+    fn disk_on(rt: &HostRuntime, path: &str) -> io::Result<FileDisk<HostRuntime>> {
+        let path = String::from_str(rt.alloc(), path)?;
+        Ok(FileDisk::new(rt.clone()?, path))
+    }
+
+    #[test]
+    fn has_its_file_alone(rt: HostRuntime) -> io::Result<()> {
+        let mut first = disk_on(&rt, "file_disk_lock_test")?;
+        assert!(rt; first.write_at(0, b"wallet").is_ok());
+        let mut second = disk_on(&rt, "file_disk_lock_test")?;
+        let mut found = [0; 6];
+        assert!(rt; second.length() == Err(DiskFault) && second.faults == 1);
+        assert!(rt; second.read(0, &mut found) == Err(DiskFault) && second.faults == 2);
+        assert!(rt; second.write_at(0, b"ledger") == Err(DiskFault) && second.faults == 3);
+        assert!(rt; second.sync() == Err(DiskFault) && second.faults == 4);
+        assert!(rt; second.calls == 0 && found == [0; 6]);
+        assert!(rt; first.read(0, &mut found).is_ok() && found == *b"wallet" && first.faults == 0);
+        drop(first);
+        let mut third = disk_on(&rt, "file_disk_lock_test")?;
+        assert!(rt; third.sync().is_ok() && third.length() == Ok(6) && third.faults == 0);
+        assert!(rt; second.length() == Err(DiskFault) && second.faults == 5);
+        drop(third);
+        assert!(rt; second.length() == Ok(6) && second.calls == 1 && second.faults == 5);
+        fs::remove_file(&rt, "file_disk_lock_test")
     }
 }

@@ -14,6 +14,7 @@ use Rattle.op_names.specs.Interaction.{interaction_hash}
 use Rattle.op_names.specs.declared.Kind.{Kind}
 use Rattle.op_names.specs.declared.Kind.TheVariants as kinds
 use Rattle.op_time.specs.MomentTexts.{moment_text}
+use Rattle.op_model.specs.Actions as actions
 use Rattle.op_model.specs.History.{last}
 use Rattle.op_model.specs.Metadata.{printed_object}
 use Rattle.op_model.specs.declared.row.PaymentState.{PaymentState}
@@ -24,6 +25,8 @@ use Rattle.op_model.specs.declared.reply.AddressShown.{AddressShown}
 use Rattle.op_model.specs.declared.reply.IncomingShown.{IncomingShown}
 use Rattle.op_model.specs.declared.reply.QuoteShown.{QuoteShown}
 use Rattle.op_model.specs.declared.reply.OutgoingShown.{OutgoingShown}
+use Rattle.op_model.specs.declared.reply.GrantSpent.{GrantSpent}
+use Rattle.op_model.specs.declared.reply.GrantSpent.TheVariants as spents
 use Rattle.op_model.specs.declared.reply.ProgressShown.{ProgressShown}
 use Rattle.op_model.specs.declared.reply.ItemShown.{ItemShown}
 use Rattle.op_model.specs.declared.reply.LimitsShown.{LimitsShown}
@@ -177,16 +180,18 @@ outgoing_inspected_data n payment = object (
 
 abbrev pub action_names : List (ℕ × List ℕ)
 action_names =
-    (1, codes "create") ∷ (2, codes "complete") ∷ (4, codes "read") ∷ (8, codes "read-all") ∷ (16, codes "list") ∷ (32, codes "list-all") ∷ []
+    (actions.create, codes "create") ∷ (actions.complete, codes "complete") ∷ (actions.read, codes "read")
+    ∷ (actions.read_all, codes "read-all") ∷ (actions.list, codes "list") ∷ (actions.list_all, codes "list-all") ∷ []
 
 -- the names of the actions that stand in a sum of bits
 abbrev pub actions_of : ℕ → List Data
-actions_of actions =
-    filter_map (λ (bit, name). if bit_and actions bit == 0 then None else Some (string name)) action_names
+actions_of bits =
+    filter_map (λ (bit, name). if bit_and bits bit == 0 then None else Some (string name)) action_names
 
 abbrev pub type_text : ℕ → List ℕ
 type_text kind =
-    if kind == 1 then codes "incoming-payment" else (if kind == 2 then codes "quote" else codes "outgoing-payment")
+    if kind == actions.incoming_payment then codes "incoming-payment"
+    else (if kind == actions.quote then codes "quote" else codes "outgoing-payment")
 
 abbrev pub limits_data : List ℕ → LimitsShown → Data
 limits_data origin limits = object (
@@ -202,11 +207,18 @@ item_data origin shown = object (
     optional (codes "limits") (option_map (limits_data origin) shown.limits) (
     member (codes "type") (string (type_text shown.kind)) no_members))))
 
--- an access token: how long it lives, in seconds, and where it is managed
+-- how long an access token lives, and how long a client waits before it continues, in seconds
+abbrev pub token_seconds : ℕ
+token_seconds = 600
+
+abbrev pub wait_seconds : ℕ
+wait_seconds = 5
+
+-- an access token: how long it lives, and where it is managed
 abbrev pub token_data : List ℕ → ℕ → List ItemShown → List ℕ → Data
 token_data origin grant shown value = object (
     member (codes "access") (list (map (item_data origin) shown)) (
-    member (codes "expires_in") (whole 600) (
+    member (codes "expires_in") (whole token_seconds) (
     member (codes "manage") (string (origin ++ codes "/token/" ++ id kinds.Grant grant)) (
     member (codes "value") (string value) no_members))))
 
@@ -229,11 +241,11 @@ issued_data origin grant shown access continuation = object (
 
 abbrev pub pending_data : List ℕ → ℕ → Option (List ℕ) → List ℕ → Data
 pending_data origin grant nonce continuation = object (
-    member (codes "continue") (continue_data origin grant continuation (Some 5)) (
+    member (codes "continue") (continue_data origin grant continuation (Some wait_seconds)) (
     member (codes "interact") (interact_data origin grant nonce) no_members))
 
 abbrev pub polled_data : List ℕ → ℕ → List ℕ → Data
-polled_data origin grant continuation = object (member (codes "continue") (continue_data origin grant continuation (Some 5)) no_members)
+polled_data origin grant continuation = object (member (codes "continue") (continue_data origin grant continuation (Some wait_seconds)) no_members)
 
 abbrev pub rotated_data : List ℕ → ℕ → List ItemShown → List ℕ → Data
 rotated_data origin grant shown access = object (member (codes "access_token") (token_data origin grant shown access) no_members)
@@ -266,18 +278,36 @@ quote_data origin shown = object (
     member (codes "receiver") (string (incoming_url origin shown.incoming)) (
     member (codes "walletAddress") (string (address_url origin shown.path)) no_members))))))))
 
-abbrev pub outgoing_data : List ℕ → OutgoingShown → Data
-outgoing_data origin shown = object (
+-- what was spent of a debit cap, and of a receive cap
+abbrev pub spent_debit : Option GrantSpent → Option Data
+spent_debit (Some (spents.Debit amount)) = Some (amount_data amount)
+spent_debit _ = None
+
+abbrev pub spent_receive : Option GrantSpent → Option Data
+spent_receive (Some (spents.Receive amount)) = Some (amount_data amount)
+spent_receive _ = None
+
+abbrev pub outgoing_with : List ℕ → OutgoingShown → Option GrantSpent → Data
+outgoing_with origin shown spent = object (
     member (codes "createdAt") (string (moment_text shown.made)) (
     member (codes "debitAmount") (amount_data shown.debit) (
     member (codes "failed") (boolean shown.failed) (
+    optional (codes "grantSpentDebitAmount") (spent_debit spent) (
+    optional (codes "grantSpentReceiveAmount") (spent_receive spent) (
     member (codes "id") (string (outgoing_url origin shown.number)) (
     optional (codes "metadata") (option_map metadata_data shown.metadata) (
     optional (codes "quoteId") (option_map (λ n. string (quote_url origin n)) shown.quote) (
     member (codes "receiveAmount") (amount_data shown.receive) (
     member (codes "receiver") (string (incoming_url origin shown.incoming)) (
     member (codes "sentAmount") (amount_data shown.sent) (
-    member (codes "walletAddress") (string (address_url origin shown.path)) no_members))))))))))
+    member (codes "walletAddress") (string (address_url origin shown.path)) no_members))))))))))))
+
+-- a payment right after it was made, with what its grant has spent, and one that is read
+abbrev pub outgoing_made_data : List ℕ → OutgoingShown → Option GrantSpent → Data
+outgoing_made_data origin shown spent = outgoing_with origin shown spent
+
+abbrev pub outgoing_data : List ℕ → OutgoingShown → Data
+outgoing_data origin shown = outgoing_with origin shown None
 
 -- ---- lists: a page of rows, by the identifiers of its first and its last
 

@@ -16,10 +16,11 @@ use Rattle.op_names.specs.declared.AddressName.{AddressName}
 use Rattle.op_names.specs.declared.Kind.TheVariants as kinds
 use Rattle.op_names.specs.declared.RowName.{RowName}
 use Rattle.op_names.specs.declared.Letter.TheVariants.{Interaction}
+use Rattle.op_model.specs.Actions as actions
 use Rattle.op_model.specs.Asking.{◌>>=◌}
 use Rattle.op_model.specs.Bodies.{action_names, type_text}
 use Rattle.op_model.specs.Json.{if_object, text_in, list_in, optional_in, each_of, or_bad, with_members}
-use Rattle.op_model.specs.Legal.{is_item, is_interval}
+use Rattle.op_model.specs.Legal.{is_item, is_interval, nonce_limit}
 use Rattle.op_model.specs.Members.{text_if, member_of, optional_of, amount_of}
 use Rattle.op_model.specs.declared.grant.Finish.{Finish}
 use Rattle.op_model.specs.declared.grant.Interact.{Interact}
@@ -51,8 +52,11 @@ grant_refused (Err refusal) = Err (in_grant refusal)
 abbrev pub is_type : List ℕ → ℕ → Bool
 is_type text kind = bytes_eq text (type_text kind)
 
+abbrev pub types : List ℕ
+types = actions.incoming_payment ∷ actions.quote ∷ actions.outgoing_payment ∷ []
+
 abbrev pub kind_in : List ℕ → Option ℕ
-kind_in text = find (is_type text) (1 ∷ 2 ∷ 3 ∷ [])
+kind_in text = find (is_type text) types
 
 -- the bit of an action
 abbrev pub action_in : List ℕ → Option ℕ
@@ -95,14 +99,14 @@ limits_of d =
 
 -- an identifier is passed over for quotes, and limits are read for outgoing payments alone
 abbrev pub identifier_in : ℕ → Data → Option (Option (Option AddressName))
-identifier_in kind d = if kind == 2 then Some None else optional_of (name_in address_in) (codes "identifier") d
+identifier_in kind d = if kind == actions.quote then Some None else optional_of (name_in address_in) (codes "identifier") d
 
 abbrev pub limits_in : ℕ → Data → Option (Option AskedLimits)
 limits_in kind d =
-    if kind == 3 then optional_of (λ v. option_and_then limits_of (if_object v)) (codes "limits") d else Some None
+    if kind == actions.outgoing_payment then optional_of (λ v. option_and_then limits_of (if_object v)) (codes "limits") d else Some None
 
 abbrev pub item_with : ℕ → ℕ → Option (Option AddressName) → Option AskedLimits → AskedItem
-item_with kind actions identifier limits = record { kind = kind; actions = actions; identifier = identifier; limits = limits }
+item_with kind bits identifier limits = record { kind = kind; actions = bits; identifier = identifier; limits = limits }
 
 abbrev pub if_item : AskedItem → Option AskedItem
 if_item item = if is_item item then Some item else None
@@ -117,7 +121,7 @@ item_in d = option_and_then (item_of_kind d) (option_and_then kind_in (text_in (
 
 -- the items in the order of their types; no type stands twice, and at least one is there
 abbrev pub items_by_kind : List AskedItem → List AskedItem
-items_by_kind items = filter_map (λ kind. find (λ item. item.kind == kind) items) (1 ∷ 2 ∷ 3 ∷ [])
+items_by_kind items = filter_map (λ kind. find (λ item. item.kind == kind) items) types
 
 abbrev pub if_distinct : List AskedItem → Option (List AskedItem)
 if_distinct items =
@@ -128,10 +132,14 @@ access_in d = option_and_then if_distinct (option_and_then (each_of item_in) (li
 
 -- ---- the client, and the interaction (RFC 9635, sections 2.3 and 2.5)
 
--- a text of at most 256 bytes; one that is no client's names none
+-- the longest text of a client, in bytes
+abbrev pub client_limit : ℕ
+client_limit = 256
+
+-- a text that is not too long; one that is no client's names none
 abbrev pub client_in : Data → Option (Option (List ℕ))
 client_in d =
-    option_and_then (λ text. if nat_le (length text) 256 then Some (if is_client text then Some text else None) else None)
+    option_and_then (λ text. if nat_le (length text) client_limit then Some (if is_client text then Some text else None) else None)
     (text_in (codes "client") d)
 
 -- whether one of the ways in which the interaction may start is `redirect`
@@ -144,7 +152,7 @@ finish_with uri nonce = record { uri = uri; nonce = nonce }
 
 abbrev pub finish_of : Data → Option Finish
 finish_of d =
-    option_and_then (λ method. option_and_then (λ uri. option_map (finish_with uri) (text_if (is_word 128) (codes "nonce") d))
+    option_and_then (λ method. option_and_then (λ uri. option_map (finish_with uri) (text_if (is_word nonce_limit) (codes "nonce") d))
     (text_if is_finish_uri (codes "uri") d)) (text_if (bytes_eq (codes "redirect")) (codes "method") d)
 
 abbrev pub interact_with : Bool → Option Finish → Interact

@@ -46,7 +46,12 @@ asked_of routes.ListOutgoings target body = list_parameters Outgoing requests.Li
 asked_of (routes.ReadOutgoing id) target body = Ok (requests.ReadOutgoing (number_named Outgoing id))
 asked_of routes.ReadFeed target body = read_feed_parameters target
 
--- the routes that are built; one that is not built yet is not found
+-- the request that is meant, or its refusal
+abbrev pub meant : Raw → Result Request Refusal
+meant raw = route_of raw.method raw.target >>= (λ route. asked_of route raw.target raw.body)
+
+-- ---- while not every route is built: one that is not is not found
+
 abbrev pub is_built : Route → Bool
 is_built routes.AddAsset = true
 is_built _ = false
@@ -54,6 +59,5 @@ is_built _ = false
 abbrev pub asked_if_built : Raw → Route → Result Request Refusal
 asked_if_built raw route = if is_built route then asked_of route raw.target raw.body else Err NotFound
 
--- the request that is meant, or its refusal
-abbrev pub meant : Raw → Result Request Refusal
-meant raw = route_of raw.method raw.target >>= asked_if_built raw
+abbrev pub meant_so_far : Raw → Result Request Refusal
+meant_so_far raw = route_of raw.method raw.target >>= asked_if_built raw

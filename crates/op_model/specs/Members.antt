@@ -2,7 +2,7 @@
 -- named, in the order in which they are read. Members and types are those of Open Payments
 -- (amount, incoming payment, quote, outgoing payment); what a grant request has stands in its own file.
 use Rattle.std.specs.Prelude.{ℕ, Bool, ◌&&◌, nat_le, if◌then◌else◌, List, codes, Some, None, Ok, option_map, option_and_then}
-use Rattle.std.specs.Option.{option_map_or}
+use Rattle.std.specs.Option.{option_map_or, is_some, is_none}
 use Rattle.std.specs.Result.{result_ok}
 use Rattle.std.specs.Str.{bytes_eq}
 use Rattle.std.specs.declared.option.Option.{Option}
@@ -16,15 +16,19 @@ use Rattle.op_names.specs.Forms.{is_origin, is_path, is_word}
 use Rattle.op_names.specs.Names.{address_in, row_in}
 use Rattle.op_names.specs.declared.Kind.TheVariants as kinds
 use Rattle.op_time.specs.MomentTexts.{moment_of}
-use Rattle.op_model.specs.Asking.{◌>>=◌}
-use Rattle.op_model.specs.Legal.{is_text}
+use Rattle.op_model.specs.History.{pieces_limit, scale_limit}
+use Rattle.op_model.specs.Asking.{◌>>=◌, refuse_if}
+use Rattle.op_model.specs.Legal.{is_text, name_limit, transfer_limit}
 use Rattle.op_model.specs.Json.{text_in, number_of, number_in, optional_in, or_bad}
 use Rattle.op_model.specs.Metadata.{is_metadata, if_plain_object}
 use Rattle.op_model.specs.declared.reply.Refusal.{Refusal}
+use Rattle.op_model.specs.declared.reply.Refusal.TheVariants.{BadField}
 use Rattle.op_model.specs.declared.request.AccountName.{AccountName}
 use Rattle.op_model.specs.declared.request.AccountName.TheVariants as accounts
 use Rattle.op_model.specs.declared.request.QuoteAsked.{QuoteAsked}
 use Rattle.op_model.specs.declared.request.QuoteAsked.TheVariants as asked
+use Rattle.op_model.specs.declared.request.PaymentAsked.{PaymentAsked}
+use Rattle.op_model.specs.declared.request.PaymentAsked.TheVariants.{Quoted, Direct}
 use Rattle.op_model.specs.declared.request.Request.{Request}
 use Rattle.op_model.specs.declared.request.Request.TheVariants as requests
 use Rattle.serde_json.specs.Data.{Data}
@@ -45,7 +49,7 @@ abbrev pub code_in : Data → Option (List ℕ)
 code_in d = option_and_then if_code (text_in (codes "assetCode") d)
 
 abbrev pub scale_in : Data → Option ℕ
-scale_in d = number_in 0 18 (codes "assetScale") d
+scale_in d = number_in 0 scale_limit (codes "assetScale") d
 
 abbrev pub asset_of : Data → Option Asset
 asset_of d = option_and_then (λ code. option_map (λ scale. record { code = code; scale = scale }) (scale_in d)) (code_in d)
@@ -89,7 +93,7 @@ set_origin_members d = do
 
 -- as many pieces as are asked for, or 1
 abbrev pub pieces_in : Data → Option ℕ
-pieces_in d = option_map_or (number_of 1 64) (optional_in (codes "pieces") d) (Some 1)
+pieces_in d = option_map_or (number_of 1 pieces_limit) (optional_in (codes "pieces") d) (Some 1)
 
 abbrev pub add_asset_members : Data → Result Request Refusal
 add_asset_members d = do
@@ -103,12 +107,12 @@ add_address_members d = do
   path ← or_bad (codes "path") (text_if is_path (codes "path") d)
   code ← or_bad (codes "assetCode") (code_in d)
   scale ← or_bad (codes "assetScale") (scale_in d)
-  name ← or_bad (codes "publicName") (optional_of (λ v. option_and_then (λ text. if is_text 128 text then Some text else None) (as_str v)) (codes "publicName") d)
+  name ← or_bad (codes "publicName") (optional_of (λ v. option_and_then (λ text. if is_text name_limit text then Some text else None) (as_str v)) (codes "publicName") d)
   Ok (requests.AddAddress path (record { code = code; scale = scale }) name)
 
 abbrev pub transfer_members : (List ℕ → AccountName → Amount → Request) → Data → Result Request Refusal
 transfer_members request d = do
-  transfer ← or_bad (codes "transferId") (text_if (is_word 64) (codes "transferId") d)
+  transfer ← or_bad (codes "transferId") (text_if (is_word transfer_limit) (codes "transferId") d)
   account ← or_bad (codes "account") (text_in (codes "account") d)
   amount ← or_bad (codes "amount") (member_of amount_of (codes "amount") d)
   Ok (request transfer (account_of account) amount)
@@ -151,9 +155,21 @@ make_quote_members d = do
   mode ← or_bad (codes "receiveAmount") (quote_mode debit receive)
   Ok (requests.MakeQuote (address_in address) (row_in kinds.Incoming receiver) mode)
 
+-- from a quote alone, or from an incoming payment and a debit
+abbrev pub payment_asked : (quote incoming : Option (List ℕ)) → (debit : Option Amount) → Option PaymentAsked
+payment_asked (Some quote) None None = Some (Quoted (row_in kinds.Quote quote))
+payment_asked None (Some incoming) (Some debit) = Some (Direct (row_in kinds.Incoming incoming) debit)
+payment_asked _ _ _ = None
+
+-- One of `quoteId` and `incomingPayment` is there, and `debitAmount` beside the second alone.
 abbrev pub make_outgoing_members : Data → Result Request Refusal
 make_outgoing_members d = do
   address ← or_bad (codes "walletAddress") (text_in (codes "walletAddress") d)
-  quote ← or_bad (codes "quoteId") (text_in (codes "quoteId") d)
+  quote ← or_bad (codes "quoteId") (optional_of as_str (codes "quoteId") d)
+  _ ← refuse_if (is_none quote && is_none (optional_in (codes "incomingPayment") d)) (BadField (codes "quoteId"))
+  incoming ← or_bad (codes "incomingPayment") (optional_of as_str (codes "incomingPayment") d)
+  _ ← refuse_if (is_some quote && is_some incoming) (BadField (codes "incomingPayment"))
+  debit ← or_bad (codes "debitAmount") (optional_of amount_of (codes "debitAmount") d)
+  payment ← or_bad (codes "debitAmount") (payment_asked quote incoming debit)
   metadata ← or_bad (codes "metadata") (optional_of metadata_of (codes "metadata") d)
-  Ok (requests.MakeOutgoing (address_in address) (row_in kinds.Quote quote) metadata)
+  Ok (requests.MakeOutgoing (address_in address) payment metadata)

@@ -8,7 +8,7 @@ use Rattle.op_names.specs.Hmac.{hmac}
 use Rattle.op_names.specs.declared.Kind.TheVariants as kinds
 use Rattle.op_model.specs.History.{origin_of}
 use Rattle.op_model.specs.Events.{event_row}
-use Rattle.op_model.specs.Shown.{path_of}
+use Rattle.op_model.specs.Shown.{path_of_address}
 use Rattle.op_model.specs.Bodies.{id, incoming_url, outgoing_url, address_url, amount_data}
 use Rattle.op_model.specs.declared.act.Entry.{Entry}
 use Rattle.op_model.specs.declared.row.EventRow.{EventRow}
@@ -63,4 +63,4 @@ message_of origin path n event t secret = signed secret t (event_body origin pat
 -- the message of event n of a history at t
 abbrev pub message : List Entry → ℕ → ℕ → (secret : List ℕ) → List ℕ
 message history n t secret =
-    option_map_or (λ event. message_of (origin_of history) (path_of history event.address) n event t secret) (event_row history n) []
+    option_map_or (λ event. message_of (origin_of history) (path_of_address history event.address) n event t secret) (event_row history n) []

@@ -18,11 +18,6 @@ chosen true true x y h = (refl, refl, cc h)
 chosen true false x y h = (refl, cc h, cc h)
 chosen false b x y h = (cc h, cc h, cc h)
 
--- the value that a test chose
-pub chosen_value : {T : Type 0} (a : Bool) (x y : T) → Some x ≡ (if a then Some y else None) → x ≡ y
-chosen_value true x y h = cc h
-chosen_value false x y h = cc h
-
 -- both tests hold
 pub both : (a b : Bool) → a && b ≡ true → (a ≡ true) × (b ≡ true)
 both true b h = (refl, h)

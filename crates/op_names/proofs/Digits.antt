@@ -1,17 +1,14 @@
 -- Hexadecimal digits: their number, their values, and their letters.
-use Rattle.std.proofs.Common.{◌≡◌, Some, ℕ, zero, suc, ◌+◌, ◌-◌, ◌*◌, ◌/◌, ◌%◌, ◌^◌, ◌<◌, ◌≤◌, List, [], ◌∷◌, ◌++◌, length, map, take, drop, replicate, get_or, refl, sym, ap, ◌∙◌, arith, length-drop, zero-add}
+use Rattle.std.proofs.Common.{◌≡◌, All, ℕ, zero, suc, ◌+◌, ◌-◌, ◌*◌, ◌/◌, ◌%◌, ◌^◌, ◌<◌, ◌≤◌, List, [], ◌∷◌, ◌++◌, length, map, take, drop, replicate, get_or, refl, sym, ap, ◌∙◌, arith, length-drop, zero-add}
 use Rattle.std.specs.Char.{to_ascii_lowercase, digit_value}
-use Rattle.std.specs.Option.{option_map}
-use Rattle.std.specs.Result.{result_ok}
-use Rattle.std.proofs.lemmas.Nat.{from_be_bytes-to_be_bytes_8}
-use Rattle.std.specs.Int.{to_be_bytes, from_be_bytes, bytes_high_first, byte_at, w64}
+use Rattle.std.specs.Int.{to_be_bytes, bytes_high_first, byte_at, w64, w128}
 use Rattle.std.specs.Str.{str_to_ascii_lowercase}
 use Rattle.std.specs.Str.Parse.{digits_value_after}
 use Rattle.std.proofs.Math.ListN as lists
-use Rattle.std.proofs.lemmas.List.{take-append-drop}
+use Rattle.std.proofs.lemmas.List.{take-append-drop, get_or_default}
 use Rattle.std.proofs.lemmas.List.FromFn.{get_or-range_with_len}
-use Rattle.hex.specs.Hex.{decode_sized, encode_with, encode_lower, lower_digits, IsBytes}
-use Rattle.hex.proofs.HexLemmas.{length-encode_with, decode_sized-encode_lower}
+use Rattle.hex.specs.Hex.{encode_with, encode_lower, lower_digits, IsBytes}
+use Rattle.hex.proofs.HexLemmas.{length-encode_with}
 use Rattle.op_names.specs.Ids.{hex_of}
 
 -- ---- the bytes of a number
@@ -27,6 +24,9 @@ high_first_lt (suc k) n (suc i) = high_first_lt k n i
 
 pub IsBytes-to_be_bytes : (n : ℕ) → IsBytes (to_be_bytes w64 n)
 IsBytes-to_be_bytes n i = high_first_lt 8 n i
+
+pub IsBytes-to_be_bytes_16 : (n : ℕ) → All (λ b. b < 256) (to_be_bytes w128 n)
+IsBytes-to_be_bytes_16 n i d h = rw (get_or_default (to_be_bytes w128 n) i d 0 h) (high_first_lt 16 n i)
 
 -- ---- digits in lower case
 
@@ -73,28 +73,10 @@ length-hex_of width number h =
 filled_up : (digits front : List ℕ) (k : ℕ) → take k digits ≡ front → front ++ drop k digits ≡ digits
 filled_up digits front k h = rw (sym h) (take-append-drop k digits)
 
--- zeros in front of the last twelve or eight digits of a small number make its sixteen digits
+-- zeros in front of the last twelve digits of a small number make its sixteen digits
 pub filled_12 : (number : ℕ) → number < 2 ^ 48 → replicate 4 48 ++ hex_of 12 number ≡ encode_lower (to_be_bytes w64 number)
 unfolding hex_of encode_with
 filled_12 number h =
     let first : number / 72057594037927936 % 256 ≡ 0 = omega arith in
     let second : number / 281474976710656 % 256 ≡ 0 = omega arith in
     filled_up (encode_lower (to_be_bytes w64 number)) (replicate 4 48) 4 (rw (first, second) refl)
-
-pub filled_8 : (number : ℕ) → number < 256 → replicate 8 48 ++ hex_of 8 number ≡ encode_lower (to_be_bytes w64 number)
-unfolding hex_of encode_with
-filled_8 number h =
-    let first : number / 72057594037927936 % 256 ≡ 0 = omega arith in
-    let second : number / 281474976710656 % 256 ≡ 0 = omega arith in
-    let third : number / 1099511627776 % 256 ≡ 0 = omega arith in
-    let fourth : number / 4294967296 % 256 ≡ 0 = omega arith in
-    filled_up (encode_lower (to_be_bytes w64 number)) (replicate 8 48) 8 (rw (first, second, third, fourth) refl)
-
--- the number of sixteen digits that a number has
-pub decoded_number : (digits : List ℕ) (number : ℕ) → number < 2 ^ 64 → digits ≡ encode_lower (to_be_bytes w64 number)
-    → option_map (from_be_bytes w64) (result_ok (decode_sized digits 8)) ≡ Some number
-decoded_number digits number small is =
-    let bytes = to_be_bytes w64 number in
-    ap (λ d. option_map (from_be_bytes w64) (result_ok (decode_sized d 8))) is
-    ∙ ap (λ r. option_map (from_be_bytes w64) (result_ok r)) (decode_sized-encode_lower bytes 8 refl (IsBytes-to_be_bytes number))
-    ∙ ap Some (from_be_bytes-to_be_bytes_8 number small)

@@ -1,37 +1,21 @@
 -- The text of an identifier, and what is read of it.
-use Rattle.std.proofs.Common.{◌≡◌, ℕ, ◌-◌, ◌^◌, ◌<◌, ◌≤◌, true, List, ◌++◌, length, map, take, drop, replicate, codes, Option, Some, None, IfSome, refl, sym, ap, ◌∙◌, lit<, lit≤, arith, append_assoc, length-append, rules, tests}
+use Rattle.std.proofs.Common.{◌≡◌, ℕ, ◌-◌, ◌^◌, ◌<◌, true, List, ◌++◌, length, map, take, drop, replicate, codes, Option, Some, None, IfSome, refl, sym, ap, ◌∙◌, lit<, lit≤, arith, append_assoc, length-append, rules, tests}
 use Rattle.std.specs.Char.{to_ascii_lowercase}
 use Rattle.std.specs.Int.{to_be_bytes, w64}
 use Rattle.std.specs.Str.{bytes_eq, str_to_ascii_lowercase}
 use Rattle.std.specs.Str.Parse.{digits_value}
-use Rattle.std.proofs.lemmas.List.{append-nil, length-map, map-append, drop-map}
+use Rattle.std.proofs.lemmas.List.{map-append, drop-map}
 use Rattle.std.proofs.lemmas.Nat.{from_be_bytes-to_be_bytes_8}
 use Rattle.std.proofs.lemmas.Option.{option_and_then_some}
 use Rattle.std.proofs.lemmas.Slice.Eq.{bytes_eq-Decides}
 use Rattle.hex.specs.Hex.{encode_lower, encode_with}
-use borrow.Rule.Slice.PartMut.{put_mid}
 use Rattle.op_names.specs.Ids.{hex_of, id_text, id_in, id_in_lower, id_if, id_of_kind, kind_number, kind_in, has_id_number}
 use Rattle.op_names.specs.declared.Kind.{Kind}
 use Rattle.op_names.specs.declared.Kind.TheVariants.{Incoming, Quote, Outgoing, Grant, Event, Address}
 use Rattle.op_names.specs.declared.Id.{Id}
-use Rattle.op_names.proofs.Digits.{length-hex_of, filled_8, filled_12, digits_value-encode_lower, number_behind, IsBytes-to_be_bytes, lowercase-encode_lower}
+use Rattle.op_names.proofs.Digits.{length-hex_of, filled_12, digits_value-encode_lower, number_behind, IsBytes-to_be_bytes, lowercase-encode_lower}
 use Rattle.op_names.proofs.Choices.{chosen, same_bytes}
-use Rattle.op_names.proofs.Rooms.{take_front, drop_front, take_all}
-
--- ---- the text
-
-pub last_digits : (width number : ℕ) → width ≤ 16 → take width (drop (16 - width) (encode_lower (to_be_bytes w64 number))) ≡ hex_of width number
-unfolding hex_of
-last_digits width number h = take_all (hex_of width number) width (sym (length-hex_of width number h))
-
-pub written : (kind digits : List ℕ) → length kind ≡ 8
-    → put_mid 24 12 (kind ++ codes "-0000-8000-8000-000000000000") digits ≡ kind ++ codes "-0000-8000-8000-" ++ digits
-written kind digits h =
-    let zeros = codes "000000000000" in
-    let head : List ℕ = kind ++ codes "-0000-8000-8000-" in
-    let size : 24 ≡ length head = omega (arith, length-append kind (codes "-0000-8000-8000-"), h) in
-    let split : kind ++ codes "-0000-8000-8000-000000000000" ≡ head ++ zeros = sym (append_assoc kind (codes "-0000-8000-8000-") zeros) in
-    rw (split, take_front head zeros 24 size, drop_front head zeros 24 size) (ap (λ rest. head ++ rest) (append-nil digits))
+use Rattle.op_names.proofs.Rooms.{take_front, drop_front}
 
 -- ---- its parts
 
@@ -66,23 +50,6 @@ kind_in-kind_number Outgoing = refl
 kind_in-kind_number Grant = refl
 kind_in-kind_number Event = refl
 kind_in-kind_number Address = refl
-
--- the digits of the kind and of the number, with zeros in front
-pub kind_digits : (low digits : List ℕ) (id : Id) → low ≡ id_text id → digits ≡ replicate (16 - length (take 8 low)) 48 ++ take 8 low
-    → digits ≡ encode_lower (to_be_bytes w64 (kind_number id.kind))
-kind_digits low digits id is filled =
-    let part : take 8 low ≡ hex_of 8 (kind_number id.kind) = ap (take 8) is ∙ kind_part id in
-    let size : length (take 8 low) ≡ 8 = ap length part ∙ length-hex_of 8 (kind_number id.kind) (lit≤ tt) in
-    filled ∙ rw (size, part) (filled_8 (kind_number id.kind) (kind_small id.kind))
-
-pub number_digits : (low digits : List ℕ) (id : Id) → id.number < 2 ^ 48 → low ≡ id_text id → digits ≡ replicate (16 - length (take 12 (drop 24 low))) 48 ++ take 12 (drop 24 low)
-    → digits ≡ encode_lower (to_be_bytes w64 id.number)
-number_digits low digits id small is filled =
-    let last = hex_of 12 id.number in
-    let whole : length last ≡ 12 = length-hex_of 12 id.number (lit≤ tt) in
-    let part : take 12 (drop 24 low) ≡ last = ap (λ text. take 12 (drop 24 text)) is ∙ ap (take 12) (number_part id) ∙ take_all last 12 (sym whole) in
-    let size : length (take 12 (drop 24 low)) ≡ 12 = ap length part ∙ whole in
-    filled ∙ rw (size, part) (filled_12 id.number small)
 
 -- ---- reading
 
@@ -141,18 +108,11 @@ determined low None sound whole =
     none_or None (id_in_lower low) (λ id found. whole id (lower_is low id found).1 (lower_is low id found).0) (λ id none. cc none)
 determined low (Some id) sound whole = sym (ap id_in_lower sound.0 ∙ reads_lower id sound.1)
 
-length-id_text : (id : Id) → length (id_text id) ≡ 36
+pub length-id_text : (id : Id) → length (id_text id) ≡ 36
 length-id_text id =
     let kind = hex_of 8 (kind_number id.kind) in
     let middle = codes "-0000-8000-8000-" in
     omega (arith, length-append (kind ++ middle) (hex_of 12 id.number), length-append kind middle, length-hex_of 8 (kind_number id.kind) (lit≤ tt), length-hex_of 12 id.number (lit≤ tt))
-
--- a text of another length is none
-pub none_of_length : (text : List ℕ) → (length text ≡ 36 → ⊥) → id_in text ≡ None
-none_of_length text h =
-    let low = str_to_ascii_lowercase text in
-    none_or (id_in_lower low) None (λ id none. cc none)
-    (λ id found. absurd (h (sym (length-map text to_ascii_lowercase) ∙ ap length (lower_is low id found).0 ∙ length-id_text id)))
 
 -- ---- what is printed is read
 
@@ -161,7 +121,7 @@ unfolding hex_of
 lower_hex width number =
     sym (drop-map to_ascii_lowercase (16 - width) (encode_lower (to_be_bytes w64 number))) ∙ ap (drop (16 - width)) (lowercase-encode_lower (to_be_bytes w64 number))
 
-lower_text : (id : Id) → str_to_ascii_lowercase (id_text id) ≡ id_text id
+pub lower_text : (id : Id) → str_to_ascii_lowercase (id_text id) ≡ id_text id
 lower_text id =
     let kind = hex_of 8 (kind_number id.kind) in
     let middle = codes "-0000-8000-8000-" in

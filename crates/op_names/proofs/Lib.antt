@@ -8,3 +8,4 @@ pub mod Reading
 pub mod Rooms
 pub mod SecretTexts
 pub mod Slashes
+pub mod Uuids

@@ -1,7 +1,6 @@
 -- Bytes in place, and zeros behind them.
-use Rattle.std.proofs.Common.{◌≡◌, ℕ, ◌+◌, ◌-◌, ◌≤◌, List, [], ◌++◌, length, take, drop, replicate, refl, sym, ap, ◌∙◌, arith, append_assoc, length-append, length-take, length-drop}
-use Rattle.std.proofs.lemmas.List.{drop-replicate, length-replicate, take-replicate, append-nil}
-use Rattle.std.proofs.Math.ListN.{drop_of_length-le}
+use Rattle.std.proofs.Common.{◌≡◌, ℕ, ◌+◌, ◌-◌, ◌≤◌, List, ◌++◌, length, take, drop, replicate, sym, ap, ◌∙◌, arith, append_assoc, length-append, length-take}
+use Rattle.std.proofs.lemmas.List.{drop-replicate, length-replicate}
 use Rattle.std.proofs.Math.Seq.{take-append_seam, drop-append_seam, take-length}
 use borrow.Rule.Slice.PartMut.{put_mid}
 
@@ -32,12 +31,3 @@ length-filled n len kept part size fits = omega (arith, length-take len kept, le
 
 pub length-room : (n k : ℕ) (text : List ℕ) → k ≡ length text → k ≤ n → length (text ++ replicate (n - k) 0) ≡ n
 length-room n k text h fits = omega (arith, length-append text (replicate (n - k) 0), length-replicate {A = ℕ} (n - k) 0)
-
--- a part that is written over the end of a run of one byte
-pub filled_front : (part : List ℕ) (n b : ℕ) → length part ≤ n
-    → put_mid (n - length part) (n - (n - length part)) (replicate n b) part ≡ replicate (n - length part) b ++ part
-filled_front part n b h =
-    let front : take (n - length part) (replicate n b) ≡ replicate (n - length part) b = take-replicate (n - length part) n b (omega arith) in
-    let behind : drop (n - (n - length part)) (drop (n - length part) (replicate n b)) ≡ [] =
-    drop_of_length-le (drop (n - length part) (replicate n b)) (omega (arith, length-drop (n - length part) (replicate n b), length-replicate n b)) in
-    rw (front, behind, append-nil) refl

@@ -75,7 +75,7 @@ funding_same history ledger row t same = ap (λ there. funding_by (nat_le row.ex
 sending_same : (history : List Entry) (ledger : LedgerValue) (incomings : List Incoming) (p t : ℕ) (made : PaymentMade) → StandAs history t (payment_so_far history (p, made)) ledger incomings → sending_answer ledger incomings (payment_so_far history (p, made)) t ≡ sending_step history (payment_so_far history (p, made)) (pieces_sent history p) t
 sending_same history ledger incomings p t made stand =
     let row = payment_so_far history (p, made) in
-    let terms = made.priced.terms in
+    let terms = made.terms in
     let n = pieces_sent history p in
     let sent = sent_after-next terms n in
     let more = ap (λ s. floor_mul s terms.num terms.den) (sym sent) in

@@ -30,6 +30,7 @@ use Rattle.op_outgoing.specs.Models.{RowsAreDefined}
 use Rattle.op_outgoing.specs.Pieces.{next_sent, next_fee, next_delivered}
 use Rattle.op_outgoing.specs.Runs.{IsAnswered}
 use Rattle.op_outgoing.specs.Steps.{funded_row, with_next_piece, ended_as, stepped_row}
+use Rattle.op_outgoing.proofs.FreshRows.{made_rows, direct_rows}
 use Rattle.op_outgoing.proofs.ModelLemmas.{row_at}
 use Rattle.op_outgoing.proofs.Rows.{with_item-agree}
 
@@ -156,7 +157,7 @@ one_piece history e p is = pieces_sent-next history e p ∙ ap (λ b. pieces_sen
 funded_next : (history : List Entry) (p k t : ℕ) (m : PaymentMade) → state_of history p ≡ states.Funding → let e : Entry = record { at = t; act = acts.OutgoingFunded p k } in payment_so_far (history ++ e ∷ []) (p, m) ≡ funded_row (payment_so_far history (p, m))
 funded_next history p k t m is =
     let e : Entry = record { at = t; act = acts.OutgoingFunded p k } in
-    let terms = m.priced.terms in
+    let terms = m.terms in
     let was = funding_by (is_some (fail_reason history p)) (list_any (λ f. is_last_piece p f.act) history) (list_any (λ f. is_funding p f.act) history) is in
     let reasons : fail_reason (history ++ e ∷ []) p ≡ fail_reason history p = reasons_next history e p refl in
     let pieces : pieces_sent (history ++ e ∷ []) p ≡ pieces_sent history p = still_sent history e p refl in
@@ -171,7 +172,7 @@ pieced state row = record row { state = state; step = row.step + 1; sent = next_
 sent_next : (history : List Entry) (p k t : ℕ) (m : PaymentMade) → state_of history p ≡ states.Sending → let e : Entry = record { at = t; act = acts.OutgoingSent p k } in payment_so_far (history ++ e ∷ []) (p, m) ≡ pieced states.Sending (payment_so_far history (p, m))
 sent_next history p k t m is =
     let e : Entry = record { at = t; act = acts.OutgoingSent p k } in
-    let terms = m.priced.terms in
+    let terms = m.terms in
     let n = pieces_sent history p in
     let was = sending_by (is_some (fail_reason history p)) (list_any (λ f. is_last_piece p f.act) history) (list_any (λ f. is_funding p f.act) history) is in
     let reasons : fail_reason (history ++ e ∷ []) p ≡ fail_reason history p = reasons_next history e p refl in
@@ -184,7 +185,7 @@ sent_next history p k t m is =
 completed_next : (history : List Entry) (p k t : ℕ) (m : PaymentMade) → state_of history p ≡ states.Sending → let e : Entry = record { at = t; act = acts.OutgoingCompleted p k } in payment_so_far (history ++ e ∷ []) (p, m) ≡ pieced states.Completed (payment_so_far history (p, m))
 completed_next history p k t m is =
     let e : Entry = record { at = t; act = acts.OutgoingCompleted p k } in
-    let terms = m.priced.terms in
+    let terms = m.terms in
     let n = pieces_sent history p in
     let was = sending_by (is_some (fail_reason history p)) (list_any (λ f. is_last_piece p f.act) history) (list_any (λ f. is_funding p f.act) history) is in
     let reasons : fail_reason (history ++ e ∷ []) p ≡ fail_reason history p = reasons_next history e p refl in
@@ -197,7 +198,7 @@ completed_next history p k t m is =
 failed_next : (history : List Entry) (p k t : ℕ) (reason : FailReason) (m : PaymentMade) → let e : Entry = record { at = t; act = acts.OutgoingFailed p k reason } in payment_so_far (history ++ e ∷ []) (p, m) ≡ ended_as reason (payment_so_far history (p, m))
 failed_next history p k t reason m =
     let e : Entry = record { at = t; act = acts.OutgoingFailed p k reason } in
-    let terms = m.priced.terms in
+    let terms = m.terms in
     let says : failure p e.act ≡ Some reason = ap (λ b. cond b (Some reason) None) (same_self p) in
     let reasons : fail_reason (history ++ e ∷ []) p ≡ Some reason = reason_next history e p reason says in
     let pieces : pieces_sent (history ++ e ∷ []) p ≡ pieces_sent history p = still_sent history e p refl in
@@ -257,6 +258,8 @@ behind_answer (answers.Waiting shortage) history p k t row act found fit is = ab
 
 pub rows_are_defined : RowsAreDefined
 rows_are_defined = record {
+  made = made_rows;
+  direct = direct_rows;
   stepped = λ history p k t row answer act found answered is. behind_answer answer history p k t row act found (fits row k answer answered) is;
   cancelled = λ history p k t. failed_rows history p k t Cancelled;
 }

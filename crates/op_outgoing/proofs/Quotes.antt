@@ -12,12 +12,13 @@ use Rattle.std.proofs.lemmas.Option.{slice_get-map, slice_get_read}
 use Rattle.op_amount.specs.Rates.{floor_mul}
 use Rattle.op_incoming.proofs.Places.{place_of_some, nth_of_place, nth-with_item}
 use Rattle.op_model.specs.History.{nth}
+use Rattle.op_model.specs.Payments.{PaymentMade, made_from_quote}
 use Rattle.op_model.specs.declared.row.OutgoingRow.{OutgoingRow}
 use Rattle.op_model.specs.declared.row.QuoteRow.{QuoteRow}
 use Rattle.op_model.proofs.Items.{set_at_is_with_item}
 use Rattle.op_outgoing.specs.Sound.{ArePriced, IsSoundRow}
 use Rattle.op_outgoing.specs.Tied.{AreTied}
-use Rattle.op_outgoing.specs.Value.{OutgoingsValue, is_from, is_paid_in, with_fresh, fresh_row}
+use Rattle.op_outgoing.specs.Value.{OutgoingsValue, is_from, is_paid_in, with_fresh, with_made, fresh_row}
 use Rattle.op_outgoing.specs.declared.quoted.Quoted.{Quoted}
 use Rattle.op_outgoing.proofs.Holding.{zero_share}
 
@@ -123,22 +124,32 @@ tied_made quotes rows q x row tied there at from =
 pub rows_marked : (quotes : List Quoted) (i : ℕ) (x : Quoted) → x ≡ get_or quotes i x → rows_of (slice_set quotes i (mark x)) ≡ rows_of quotes
 rows_marked quotes i x at = map-set_same (λ quoted. quoted.row) quotes i (mark x) x (ap (λ quoted. quoted.row) at)
 
-fresh_step : (value : OutgoingsValue) (t q grant : ℕ) (metadata : Option (List ℕ)) (row : QuoteRow) (found : Option QuoteRow) → found ≡ Some row → option_map_or (λ quote. record value { rows = value.rows ++ fresh_row t q grant metadata quote ∷ [] }) found value ≡ record value { rows = value.rows ++ fresh_row t q grant metadata row ∷ [] }
+fresh_step : (value : OutgoingsValue) (t q grant : ℕ) (metadata : Option (List ℕ)) (row : QuoteRow) (found : Option QuoteRow) → found ≡ Some row → option_map_or (λ quote. with_made value (made_from_quote t grant q metadata quote)) found value ≡ with_made value (made_from_quote t grant q metadata row)
 fresh_step value t q grant metadata row found is = rw is refl
 
-pub fresh_is : (value : OutgoingsValue) (t q grant : ℕ) (metadata : Option (List ℕ)) (row : QuoteRow) → nth value.quotes q ≡ Some row → with_fresh value t q grant metadata ≡ record value { rows = value.rows ++ fresh_row t q grant metadata row ∷ [] }
+pub fresh_is : (value : OutgoingsValue) (t q grant : ℕ) (metadata : Option (List ℕ)) (row : QuoteRow) → nth value.quotes q ≡ Some row → with_fresh value t q grant metadata ≡ with_made value (made_from_quote t grant q metadata row)
 fresh_is value t q grant metadata row found = fresh_step value t q grant metadata row (nth value.quotes q) found
 
-zero_floor : (num den : ℕ) → floor_mul 0 num den ≡ 0
+pub zero_floor : (num den : ℕ) → floor_mul 0 num den ≡ 0
 zero_floor num den = let none : 0 * num / den ≤ 0 = div-le_of_le-mul den (omega arith) in omega arith
 
-pub sound_fresh : (t q grant : ℕ) (metadata : Option (List ℕ)) (quote : QuoteRow) → ArePriced quote.terms → IsSoundRow (fresh_row t q grant metadata quote)
-sound_fresh t q grant metadata quote priced = record {
+pub sound_fresh : (made : PaymentMade) → ArePriced made.terms → IsSoundRow (fresh_row made)
+sound_fresh made priced = record {
   priced = priced;
   sent = omega arith;
-  fee = sym (zero_share quote.terms.fee quote.terms.source);
-  delivered = sym (zero_floor quote.terms.num quote.terms.den);
+  fee = sym (zero_share made.terms.fee made.terms.source);
+  delivered = sym (zero_floor made.terms.num made.terms.den);
   far = (refl, refl);
+}
+
+-- a payment without a quote marks none
+pub tied_direct : (quotes : List Quoted) (rows : List OutgoingRow) (row : OutgoingRow) → AreTied quotes rows → row.quote ≡ None → AreTied quotes (rows ++ row ∷ [])
+tied_direct quotes rows row tied from = record {
+  priced = tied.priced;
+  marked = λ q.
+      tied.marked q ∙ or_none (is_paid_in rows q)
+      ∙ ap (λ t. is_paid_in rows q || t) (sym (ap (λ quote. option_map_or (λ n. n == q) quote false) from))
+      ∙ sym (any_more (is_from q) rows row);
 }
 
 -- ---- quote n, as an index gives it

@@ -210,10 +210,10 @@ all_delivered row sound is =
     sound.delivered ∙ ap (λ s. floor_mul s row.terms.num row.terms.den) (completed_sends_all row sound is) ∙ sym sound.priced.receive
 
 pub payments_keep_their_terms : PaymentsKeepTheirTerms
-payments_keep_their_terms = λ t q grant metadata quote priced steps are.
-    let row = fresh_row t q grant metadata quote in
+payments_keep_their_terms = λ made priced steps are.
+    let row = fresh_row made in
     let end = row_at_end row steps in
-    let all = keeps_all steps row (sound_fresh t q grant metadata quote priced) are in
+    let all = keeps_all steps row (sound_fresh made priced) are in
     let debits : debited row steps ≡ end.sent + end.fee = omega (arith, all.debits) in
     let delivers : delivered row steps ≡ end.delivered = omega (arith, all.delivers) in
     record {

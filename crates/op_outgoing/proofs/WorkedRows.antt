@@ -4,6 +4,7 @@ use Rattle.std.specs.declared.option.Option.{Option}
 use Rattle.op_incoming.specs.Rows.{made, completed, received_by}
 use Rattle.op_incoming.specs.declared.incoming.Incoming.{Incoming}
 use Rattle.op_ledger.specs.Balances.{LedgerValue, posted_in, held_in, available_in}
+use Rattle.op_model.specs.Payments.{made_from_quote, made_directly}
 use Rattle.op_model.specs.declared.act.Account.TheVariants.{Fees, Outside, Pool, Wallet}
 use Rattle.op_model.specs.declared.act.FailReason.TheVariants.{ReceiverClosed}
 use Rattle.op_model.specs.declared.reply.Shortage.TheVariants.{NotFunded}
@@ -65,7 +66,7 @@ ledger_of alice pool =
 
 abbrev scene : Terms → (alice pool : ℕ) → Option ℕ → Scene
 scene terms alice pool amount =
-    record { row = fresh_row 0 1 1 None (quote terms); ledger = ledger_of alice pool; incomings = made [] (incoming amount) }
+    record { row = fresh_row (made_from_quote 0 1 1 None (quote terms)); ledger = ledger_of alice pool; incomings = made [] (incoming amount) }
 
 -- ---- rate 3/7, seven pieces
 
@@ -135,7 +136,7 @@ abbrev costly : Terms
 costly = record { payer = 1; payee = 2; incoming = 1; debit = 1010; source = 1000; fee = 10; receive = 1000; num = 1; den = 1; piece = 1000 }
 
 abbrev second_payment : Scene
-second_payment = let first = behind_first 1 (scene costly 1010 0 None) in record { row = fresh_row 0 2 1 None (quote costly); ledger = first.ledger; incomings = first.incomings }
+second_payment = let first = behind_first 1 (scene costly 1010 0 None) in record { row = fresh_row (made_from_quote 0 1 2 None (quote costly)); ledger = first.ledger; incomings = first.incomings }
 
 second_waits : answer_at 0 second_payment ≡ answers.Waiting (NotFunded 0 1010)
 second_waits = refl

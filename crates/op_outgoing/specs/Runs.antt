@@ -1,17 +1,16 @@
 -- A payment from its making on: what any list of steps and cancellings uses, debits and delivers.
 use Rattle.std.specs.Prelude.{ℕ, ◌≡◌, ◌+◌, true, if◌then◌else◌, List, [], ◌∷◌, ◌++◌, length}
 use Rattle.std.specs.List.{range_with_len}
-use Rattle.std.specs.declared.option.Option.{Option}
 use Rattle.op_amount.specs.Rates.{share, floor_mul}
 use Rattle.op_incoming.specs.declared.incoming.Incoming.{Incoming}
 use Rattle.op_ledger.specs.Balances.{LedgerValue}
 use Rattle.op_ledger.specs.Pieces.{taken}
+use Rattle.op_model.specs.Payments.{PaymentMade}
 use Rattle.op_model.specs.declared.act.FailReason.TheVariants.{Cancelled}
 use Rattle.op_model.specs.declared.reply.StepAnswer.{StepAnswer}
 use Rattle.op_model.specs.declared.reply.StepAnswer.TheVariants as answers
 use Rattle.op_model.specs.declared.row.OutgoingRow.{OutgoingRow}
 use Rattle.op_model.specs.declared.row.PaymentState.TheVariants as states
-use Rattle.op_model.specs.declared.row.QuoteRow.{QuoteRow}
 use Rattle.op_outgoing.specs.Answers.{row_answer}
 use Rattle.op_outgoing.specs.Pieces.{next_piece}
 use Rattle.op_outgoing.specs.Progress.{is_alive}
@@ -88,5 +87,5 @@ pub record KeepsTerms (row : OutgoingRow) (steps : List Taken) : Type 0 where
 
 abbrev pub PaymentsKeepTheirTerms : Type 0
 PaymentsKeepTheirTerms =
-    (t q grant : ℕ) (metadata : Option (List ℕ)) (quote : QuoteRow) → ArePriced quote.terms →
-    (steps : List Taken) → AreTaken (fresh_row t q grant metadata quote) steps → KeepsTerms (fresh_row t q grant metadata quote) steps
+    (made : PaymentMade) → ArePriced made.terms →
+    (steps : List Taken) → AreTaken (fresh_row made) steps → KeepsTerms (fresh_row made) steps

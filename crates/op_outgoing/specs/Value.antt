@@ -6,11 +6,13 @@ use Rattle.std.specs.declared.option.Option.{Option}
 use Rattle.op_incoming.specs.declared.incoming.Incoming.{Incoming}
 use Rattle.op_ledger.specs.Balances.{LedgerValue}
 use Rattle.op_model.specs.History.{nth, with_item}
+use Rattle.op_model.specs.Payments.{PaymentMade, made_from_quote, made_directly}
 use Rattle.op_model.specs.declared.reply.StepAnswer.{StepAnswer}
 use Rattle.op_model.specs.declared.reply.StepAnswer.TheVariants as answers
 use Rattle.op_model.specs.declared.row.OutgoingRow.{OutgoingRow}
 use Rattle.op_model.specs.declared.row.PaymentState.TheVariants as states
 use Rattle.op_model.specs.declared.row.QuoteRow.{QuoteRow}
+use Rattle.op_model.specs.declared.row.Terms.{Terms}
 use Rattle.op_outgoing.specs.Answers.{row_answer}
 use Rattle.op_outgoing.specs.Steps.{stepped_ledger, stepped_incomings, voided}
 use Rattle.op_outgoing.specs.declared.outgoings.OutgoingFault.{OutgoingFault}
@@ -48,16 +50,16 @@ with_quote value row = record value { quotes = value.quotes ++ row ∷ [] }
 
 -- ---- payments
 
--- a payment as it is made from quote q
-abbrev pub fresh_row : (t q grant : ℕ) → Option (List ℕ) → QuoteRow → OutgoingRow
-fresh_row t q grant metadata quote =
+-- a payment as it is made, before its first step
+abbrev pub fresh_row : PaymentMade → OutgoingRow
+fresh_row made =
     record {
-      grant = grant;
-      quote = Some q;
-      made = t;
-      expiry = quote.expiry;
-      terms = quote.terms;
-      metadata = metadata;
+      grant = made.grant;
+      quote = made.quote;
+      made = made.made;
+      expiry = made.expiry;
+      terms = made.terms;
+      metadata = made.metadata;
       state = states.Funding;
       step = 0;
       sent = 0;
@@ -66,12 +68,18 @@ fresh_row t q grant metadata quote =
       reason = 0;
     }
 
-abbrev pub made_from : OutgoingsValue → (t q grant : ℕ) → Option (List ℕ) → QuoteRow → OutgoingsValue
-made_from value t q grant metadata quote = record value { rows = value.rows ++ fresh_row t q grant metadata quote ∷ [] }
+-- with one more payment
+abbrev pub with_made : OutgoingsValue → PaymentMade → OutgoingsValue
+with_made value made = record value { rows = value.rows ++ fresh_row made ∷ [] }
 
--- with one more payment, made from quote q
+-- made from quote q
 abbrev pub with_fresh : OutgoingsValue → (t q grant : ℕ) → Option (List ℕ) → OutgoingsValue
-with_fresh value t q grant metadata = option_map_or (made_from value t q grant metadata) (nth value.quotes q) value
+with_fresh value t q grant metadata =
+    option_map_or (λ quote. with_made value (made_from_quote t grant q metadata quote)) (nth value.quotes q) value
+
+-- made without a quote
+abbrev pub with_direct : OutgoingsValue → (t : ℕ) → Terms → (grant : ℕ) → Option (List ℕ) → OutgoingsValue
+with_direct value t terms grant metadata = with_made value (made_directly t grant metadata terms)
 
 abbrev pub with_payment : (OutgoingRow → OutgoingRow) → OutgoingsValue → ℕ → OutgoingsValue
 with_payment change value p = record value { rows = with_item change value.rows p }

@@ -3,6 +3,7 @@
 #![tactic(auto)]
 
 mod law;
+mod made;
 mod outgoings;
 mod payments;
 mod progress;

@@ -8,20 +8,24 @@ ghost use Rattle.op_model.specs.declared.act.FailReason.TheVariants.{Cancelled};
 ghost use Rattle.op_outgoing.specs.Held.{are_accounts_there, is_incoming_there, is_rate_plain, IsCovered, ChangesAlike};
 ghost use Rattle.op_outgoing.specs.Sound.{ArePriced, IsSoundRow};
 ghost use Rattle.op_outgoing.specs.Steps.{stepped_row, ended_as, is_idle};
-ghost use Rattle.op_outgoing.specs.Value.{has_quote, has_payment, payment_is, is_paid_in, quote_expiry, with_quote, with_fresh, with_payment, answer_in, ledger_behind, incomings_behind, voided_in, IsMakingFault};
+ghost use Rattle.op_outgoing.specs.Value.{has_quote, has_payment, payment_is, is_paid_in, quote_expiry, with_quote, with_fresh, with_direct, with_payment, answer_in, ledger_behind, incomings_behind, voided_in, IsMakingFault};
 ghost use Rattle.op_outgoing.specs.Work.{due_steps, next_cursor};
 ghost use Rattle.op_outgoing.specs.declared.outgoings.OutgoingFault.TheVariants as faults;
 
+use crate::made::{Made, fresh};
 use crate::payments::{Payments, has_ended};
 use crate::progress::failed;
 use crate::quoted::Quoted;
 use crate::stepping::{take_step, void_rest};
 use op_incoming::Incomings;
 use op_ledger::Ledger;
-use op_model::{FailReason, MetaText, OutgoingRow, PaymentState, QuoteRow, StepAnswer, Task};
+use op_model::{FailReason, MetaText, OutgoingRow, QuoteRow, StepAnswer, Task, Terms};
 use op_time::Moment;
 use std::alloc::{AllocError, Global};
 use std::marker::Model;
+
+/// How long a price stands, in milliseconds.
+const PRICE_LIFETIME: u64 = 300_000;
 
 /// Why a payment is not made or not cancelled.
 #[derive(Clone, Copy, Debug, PartialEq, Eq)]
@@ -113,22 +117,40 @@ impl Outgoings {
         if row.expiry.ms() <= t.ms() {
             return Err(OutgoingFault::QuoteExpired);
         }
-        let number = self.payments.push(OutgoingRow {
+        let number = self.payments.push(fresh(Made {
             grant,
             quote: Some(quote),
             made: t,
             expiry: row.expiry,
             terms: row.terms,
             metadata,
-            state: PaymentState::Funding,
-            step: 0,
-            sent: 0,
-            fee: 0,
-            delivered: 0,
-            reason: 0,
-        })?;
+        }))?;
         self.quotes[place].used = true;
         Ok(number)
+    }
+
+    /// Makes a payment without a quote at a moment, and answers its number. Its terms stand for five minutes, as those
+    /// of a quote do.
+    pub fn add_direct(
+        &mut self,
+        t: Moment,
+        terms: Terms,
+        grant: u64,
+        metadata: Option<MetaText>,
+    ) -> Result<u64, AllocError>
+        requires { ArePriced terms }
+        ensures ok { IfOk result
+            (λ n. (self.new ≡ with_direct self.old t terms grant metadata) × (n ≡ length self.new.rows)) }
+        ensures err { OnErr result (self.new ≡ self.old) }
+    {
+        self.payments.push(fresh(Made {
+            grant,
+            quote: None,
+            made: t,
+            expiry: Moment::at_most_last(t.ms() + PRICE_LIFETIME),
+            terms,
+            metadata,
+        }))
     }
 
     /// Takes step `k` of a payment at a moment, on a ledger and the incoming payments, by the table of steps. The

@@ -19,7 +19,7 @@ pub trait Words {
     /// How often it has failed.
     ghost faults: { Self → ℕ };
 
-    /// Draws the next word. After a fault the words to come are to come.
+    /// Draws the next word. A draw that fails takes none: the next draw gives the word that this one did not.
     fn draw(&mut self) -> Result<[u8; 16], WordsFault>
         ensures drawn { DrawsOne (words self.old) (words self.new) result }
         ensures cause { HasCause (faults self.old) (faults self.new) result };

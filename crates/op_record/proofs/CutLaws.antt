@@ -92,7 +92,7 @@ pub cut_is_short : (bytes : List ℕ) → IsCut bytes → entry_at bytes ≡ Err
 cut_is_short bytes cut = cut_cases bytes cut (entry_at bytes) refl
 
 -- the front of a front
-take_take : (m n : ℕ) (bytes : List ℕ) → m ≤ n → n ≤ length bytes → (more : List ℕ) × (take m bytes ++ more ≡ take n bytes)
+pub take_take : (m n : ℕ) (bytes : List ℕ) → m ≤ n → n ≤ length bytes → (more : List ℕ) × (take m bytes ++ more ≡ take n bytes)
 take_take m n bytes le enough =
     let len : length (take n bytes) ≡ n = omega (arith, length-take n bytes) in
     let front : take m (take n bytes) ≡ take m bytes =

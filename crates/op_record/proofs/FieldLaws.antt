@@ -61,6 +61,16 @@ pub row-if : {B : Type 0} {spell : B → List ℕ} {Fits : B → Type 0} (wrap :
 row-if wrap true first second = first refl
 row-if wrap false first second = second refl
 
+-- the same row, by what each text with its value says
+pub row-fits : {B : Type 0} {spell : B → List ℕ} {F G : B → Type 0} (wrap : List ℕ → List ℕ) {r : Reader B} → Row spell F wrap r
+    → ((text : List ℕ) (x : B) → wrap text ≡ spell x → F x → G x) → Row spell G wrap r
+row-fits wrap row to = record {
+  good = row.good;
+  takes = λ bytes x rest e.
+      let t = row.takes bytes x rest e in
+      record { text = t.text; parts = t.parts; spelled = t.spelled; fits = to t.text x t.spelled t.fits };
+}
+
 pub again-bind : {A B : Type 0} {r : Reader A} {piece : A → List ℕ} {F : A → Type 0} (field : Field r piece F) (next : A → Reader B) (x : A) (t rest : List ℕ) (y : Result (B × List ℕ) Fault)
     → F x → next x (t ++ rest) ≡ y → bind r next ((piece x ++ t) ++ rest) ≡ y
 unfolding bind

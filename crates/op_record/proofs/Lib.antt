@@ -7,6 +7,10 @@ pub mod ActLaws
 pub mod Digits
 pub mod ItemSteps
 pub mod CutLaws
+pub mod Many
+pub mod RoundSteps
+pub mod RoundLaws
+pub mod Held
 pub mod Entries
 pub mod Putting
 pub mod LengthLaws

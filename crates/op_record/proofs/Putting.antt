@@ -1,7 +1,7 @@
 -- Texts that are put one after another.
-use Rattle.std.proofs.Common.{◌≡◌, ℕ, zero, suc, ◌+◌, ◌≤◌, ◌<◌, List, [], ◌∷◌, ◌++◌, length, take, get_or, Vec, Global, refl, sym, ap, subst, ◌∙◌, append_assoc, arith}
+use Rattle.std.proofs.Common.{◌≡◌, ℕ, zero, suc, ◌+◌, ◌≤◌, ◌<◌, List, [], ◌∷◌, ◌++◌, length, map, take, get_or, Vec, Global, refl, sym, ap, subst, ◌∙◌, append_assoc, arith}
 use Rattle.std.specs.Prelude.{vec_capacity}
-use Rattle.std.specs.List.{flat_map}
+use Rattle.std.specs.List.{flat_map, concat, AllByRecursion}
 use Rattle.std.proofs.lemmas.List.{append-nil, length-append}
 use Rattle.std.proofs.Math.Seq.{take-suc}
 use Rattle.std.proofs.lemmas.Grind.{flat_map-append}
@@ -28,6 +28,14 @@ last a x y p = subst (λ (t : List ℕ). Puts t x y) (sym (append-nil a)) p
 pub nothing : (x : Vec ℕ Global) → Puts [] x x
 nothing x = record { lands = λ room. (sym (append-nil x.items), omega arith) }
 
+row_of : {X : Type 0} (f : X → List ℕ) (xs : List X) (more : List (List ℕ)) → flat_map f xs ++ concat more ≡ concat (map f xs ++ more)
+row_of f [] more = refl
+row_of f (x ∷ xs) more = append_assoc (f x) (flat_map f xs) (concat more) ∙ ap (λ (t : List ℕ). f x ++ t) (row_of f xs more)
+
+-- pieces that are put at once, and others behind them
+pub row_put : {X : Type 0} (f : X → List ℕ) (xs : List X) (more : List (List ℕ)) (x y : Vec ℕ Global) → Puts (flat_map f xs ++ concat more) x y → Puts (concat (map f xs ++ more)) x y
+row_put f xs more x y p = subst (λ (t : List ℕ). Puts t x y) (row_of f xs more) p
+
 pub next_piece : {X : Type 0} (f : X → List ℕ) (xs : List X) (i : ℕ) (d : X) → i < length xs → flat_map f (take (i + 1) xs) ≡ flat_map f (take i xs) ++ f (get_or xs i d)
 next_piece f xs i d lt =
     let step : i + 1 ≡ suc i = omega arith in
@@ -47,6 +55,12 @@ one_more f xs i d x y z lt p q =
 
 pub all_put : {X : Type 0} (f : X → List ℕ) (xs : List X) (i : ℕ) (x y : Vec ℕ Global) → length xs ≤ i → Puts (flat_map f (take i xs)) x y → Puts (flat_map f xs) x y
 all_put f xs i x y le p = subst (λ t. Puts (flat_map f t) x y) (take_past xs i le) p
+
+-- each of a list, by what holds of all
+pub one_of_all : {X : Type 0} (P : X → Type 0) (xs : List X) (i : ℕ) (d : X) → AllByRecursion P xs → i < length xs → P (get_or xs i d)
+one_of_all P [] i d h lt = absurd (omega (arith, lt))
+one_of_all P (x ∷ xs) zero d h lt = h.0
+one_of_all P (x ∷ xs) (suc i) d h lt = one_of_all P xs i d h.1 (omega (arith, lt))
 
 -- each item of a list is one
 pub item_of_all : (low : ℕ) (xs : List Item) (i : ℕ) (d : Item) → AreAbove low xs → i < length xs → IsItem (get_or xs i d)

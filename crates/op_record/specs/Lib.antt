@@ -4,6 +4,9 @@ pub mod Recordable
 pub mod Readers
 pub mod Rows
 pub mod Cuts
+pub mod Rounds
 pub mod Reading
+pub mod RoundReading
+pub mod Packing
 pub mod Laws
 pub mod Writing

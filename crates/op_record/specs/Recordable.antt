@@ -1,4 +1,4 @@
--- What has a record: the bounds that the types of an entry do not keep, and those that they keep.
+-- What can be written: the bounds that the types of an entry do not keep, and those that they keep.
 use Rattle.std.specs.Prelude.{◌≡◌, ◌⊎◌, ℕ, ◌^◌, ◌<◌, ◌≤◌, true, List, [], ◌∷◌, length, Option, Some, None, IfSome}
 use Rattle.op_time.specs.declared.TheConstants.{LAST}
 use Rattle.op_model.specs.Legal.{has_actions, is_outcome}
@@ -42,20 +42,30 @@ AreItems xs = (1 ≤ length xs) × AreAbove 0 xs
 abbrev pub IsFinish : Finish → Type 0
 IsFinish f = IsShort 512 f.uri × IsShort 128 f.nonce
 
-abbrev pub IsRecordableAct : Act → Type 0
-IsRecordableAct (acts.AddressAdded path asset name) = IsShort 128 path × IfSome name (IsShort 128)
-IsRecordableAct (acts.Deposited transfer account value) = IsShort 64 transfer × IsInside account
-IsRecordableAct (acts.Withdrawn transfer account value) = IsShort 64 transfer × IsInside account
-IsRecordableAct (acts.IncomingMade grant address amount expiry metadata) = IfSome metadata (IsShort 1024)
-IsRecordableAct (acts.GrantAsked client items finish word) = IsShort 256 client × AreItems items × IfSome finish IsFinish
-IsRecordableAct (acts.OutgoingMade grant quote metadata) = IfSome metadata (IsShort 1024)
-IsRecordableAct (acts.Attempted event outcome) = is_outcome outcome ≡ true
-IsRecordableAct _ = Unit {0}
+abbrev pub IsWithinLimits : Act → Type 0
+IsWithinLimits (acts.AddressAdded path asset name) = IsShort 128 path × IfSome name (IsShort 128)
+IsWithinLimits (acts.Deposited transfer account value) = IsShort 64 transfer × IsInside account
+IsWithinLimits (acts.Withdrawn transfer account value) = IsShort 64 transfer × IsInside account
+IsWithinLimits (acts.IncomingMade grant address amount expiry metadata) = IfSome metadata (IsShort 1024)
+IsWithinLimits (acts.GrantAsked client items finish word) = IsShort 256 client × AreItems items × IfSome finish IsFinish
+IsWithinLimits (acts.OutgoingMade grant quote metadata) = IfSome metadata (IsShort 1024)
+IsWithinLimits (acts.OutgoingDirect grant address incoming debit source fee receive num den metadata) = IfSome metadata (IsShort 1024)
+IsWithinLimits (acts.Attempted event outcome) = is_outcome outcome ≡ true
+IsWithinLimits _ = Unit {0}
 
--- an entry that has a record: its texts are within their limits, its account is inside, its items are one to three in ascending type
+-- an entry that can be written: its texts are within their limits, its account is inside, its items are one to three in ascending type
 -- with actions of their types, its outcome is none or a status
+abbrev pub IsWritable : Entry → Type 0
+IsWritable entry = IsWithinLimits entry.act
+
+-- an act that version 1 has: all but a payment without a quote
+abbrev pub IsOfVersion1 : Act → Type 0
+IsOfVersion1 (acts.OutgoingDirect grant address incoming debit source fee receive num den metadata) = ⊥
+IsOfVersion1 _ = Unit {0}
+
+-- an entry that has a record, which is of version 1
 abbrev pub IsRecordable : Entry → Type 0
-IsRecordable entry = IsRecordableAct entry.act
+IsRecordable entry = IsWritable entry × IsOfVersion1 entry.act
 
 -- ---- bounds of the types
 
@@ -121,6 +131,8 @@ FitsAct (acts.OutgoingFunded payment step) = IsU64 payment × IsU64 step
 FitsAct (acts.OutgoingSent payment step) = IsU64 payment × IsU64 step
 FitsAct (acts.OutgoingCompleted payment step) = IsU64 payment × IsU64 step
 FitsAct (acts.OutgoingFailed payment step reason) = IsU64 payment × IsU64 step
+FitsAct (acts.OutgoingDirect grant address incoming debit source fee receive num den metadata) =
+    IsU64 grant × IsU32 address × IsU64 incoming × IsU64 debit × IsU64 source × IsU64 fee × IsU64 receive × IsU64 num × IsU64 den
 FitsAct (acts.Attempted event outcome) = IsU64 event
 
 -- each number fits its type, a moment is at most the last one, a word has sixteen bytes, an origin at most 200 and a code at most eight

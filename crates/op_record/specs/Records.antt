@@ -1,4 +1,4 @@
--- The record of an entry: its moment, the kind of its act and the act's fields, one after another.
+-- The record of an entry, as version 1 has it: its moment, the kind of its act and the act's fields, one after another.
 use Rattle.std.specs.Prelude.{ℕ, List, [], ◌∷◌, ◌++◌}
 use Rattle.std.specs.List.{concat}
 use Rattle.op_model.specs.declared.act.Entry.{Entry}
@@ -34,9 +34,12 @@ row (acts.OutgoingFunded payment step) = (20 ∷ []) ∷ number 8 payment ∷ nu
 row (acts.OutgoingSent payment step) = (21 ∷ []) ∷ number 8 payment ∷ number 8 step ∷ []
 row (acts.OutgoingCompleted payment step) = (22 ∷ []) ∷ number 8 payment ∷ number 8 step ∷ []
 row (acts.OutgoingFailed payment step reason) = (23 ∷ []) ∷ number 8 payment ∷ number 8 step ∷ (reason_number reason ∷ []) ∷ []
+row (acts.OutgoingDirect grant address incoming debit source fee receive num den metadata) =
+    (25 ∷ []) ∷ number 8 grant ∷ number 4 address ∷ number 8 incoming ∷ number 8 debit ∷ number 8 source ∷ number 8 fee ∷ number 8 receive ∷ number 8 num
+    ∷ number 8 den ∷ optional text metadata ∷ []
 row (acts.Attempted event outcome) = (24 ∷ []) ∷ number 8 event ∷ number 2 outcome ∷ []
 
--- the kind of an act and its fields: what a round that has one moment repeats for each act
+-- the kind of an act and its fields: both versions have these for each act
 abbrev pub act_of : Act → List ℕ
 act_of act = concat (row act)
 

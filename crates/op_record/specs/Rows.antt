@@ -132,6 +132,11 @@ outgoing_failed_at = bind u64_at (λ payment. bind u64_at (λ step. bind reason_
 unfoldable pub attempted_at : Reader Act
 attempted_at = bind u64_at (λ event. bind outcome_at (λ outcome. done (acts.Attempted event outcome)))
 
+unfoldable pub outgoing_direct_at : Reader Act
+outgoing_direct_at = bind u64_at (λ grant. bind u32_at (λ address. bind u64_at (λ incoming. bind u64_at (λ debit. bind u64_at (λ source. bind u64_at (λ fee.
+    bind u64_at (λ receive. bind u64_at (λ num. bind u64_at (λ den. bind (option_at (text_at 1024)) (λ metadata.
+    done (acts.OutgoingDirect grant address incoming debit source fee receive num den metadata)))))))))))
+
 -- ---- the row of a kind, by four groups
 
 -- kinds 1 to 6: what the provider does
@@ -161,14 +166,15 @@ grant_at kind =
     (if kind == 16 then one_at acts.GrantCancelled else
     (if kind == 17 then drawn_at acts.TokenRotated else one_at acts.TokenRevoked))))))
 
--- kinds 19 to 24: outgoing payments and events
+-- kinds 19 to 25: outgoing payments and events
 unfoldable pub sending_at : ℕ → Reader Act
 sending_at kind =
     if kind == 19 then outgoing_made_at else
     (if kind == 20 then two_at acts.OutgoingFunded else
     (if kind == 21 then two_at acts.OutgoingSent else
     (if kind == 22 then two_at acts.OutgoingCompleted else
-    (if kind == 23 then outgoing_failed_at else attempted_at))))
+    (if kind == 23 then outgoing_failed_at else
+    (if kind == 24 then attempted_at else outgoing_direct_at)))))
 
 unfoldable pub fields_at : ℕ → Reader Act
 fields_at kind =
@@ -176,8 +182,14 @@ fields_at kind =
     (if nat_le kind 10 then receiving_at kind else
     (if nat_le kind 18 then grant_at kind else sending_at kind))
 
-unfoldable pub act_at : Reader Act
-act_at = bind (byte_between 1 24) fields_at
+-- a kind up to the highest that is known, and the fields of its act
+unfoldable pub act_at : (highest : ℕ) → Reader Act
+act_at highest = bind (byte_between 1 highest) fields_at
 
+-- the record of an entry, as version 1 has it
 unfoldable pub entry_at : Reader Entry
-entry_at = bind moment_at (λ at. bind act_at (λ act. done (record { at = at; act = act })))
+entry_at = bind moment_at (λ at. bind (act_at 24) (λ act. done (record { at = at; act = act })))
+
+-- an entry of a round of version 2, whose moment was said before
+unfoldable pub entry_of_round_at : (at : ℕ) → Reader Entry
+entry_of_round_at at = bind (act_at 25) (λ act. done (record { at = at; act = act }))

@@ -4,7 +4,7 @@ ghost use Rattle.std.specs.Prelude.{◌≡◌, ◌≤◌, ◌*◌, length, IfSom
 ghost use Rattle.std.specs.List.{flat_map};
 ghost use Rattle.op_record.specs.Fields.{text, number, optional, limits, item, items, cap, finish};
 ghost use Rattle.op_record.specs.Records.{act_of, record_of};
-ghost use Rattle.op_record.specs.Recordable.{IsShort, AreLimits, IsFinish, IsItem, AreAbove, AreItems, IsRecordableAct, IsRecordable};
+ghost use Rattle.op_record.specs.Recordable.{IsShort, AreLimits, IsFinish, IsItem, AreAbove, AreItems, IsWithinLimits, IsWritable};
 
 use op_model::{Act, Cap, Entry, Finish, IntervalText, Item, Limits, Text, Word};
 
@@ -158,8 +158,8 @@ fn some_finish_length(value: &Option<Finish>) -> usize
 
 /// How many bytes an act's kind and its fields are.
 #[tactic(auto, using(crate::proofs::LengthLaws::lengths))]
-fn act_length(act: &Act) -> usize
-    requires { IsRecordableAct act.now }
+pub(crate) fn act_length(act: &Act) -> usize
+    requires { IsWithinLimits act.now }
     ensures is { result ≡ length (act_of act.now) }
     ensures low { result ≤ 10000 }
 {
@@ -204,14 +204,15 @@ fn act_length(act: &Act) -> usize
         Act::OutgoingCompleted { .. } => 17,
         Act::OutgoingFailed { .. } => 18,
         Act::Attempted { .. } => 11,
+        Act::OutgoingDirect { metadata, .. } => 69 + some_text_length(metadata),
     }
 }
 
 /// How many bytes the record of an entry is. The entry's texts are within their limits, and its items and its outcome are
-/// those of a record.
+/// those of a record. A payment without a quote, which version 1 does not have, counts as if it had.
 #[tactic(auto, unfolding(crate::specs::Records::record_of), using(crate::proofs::LengthLaws::lengths))]
 pub fn entry_length(entry: &Entry) -> usize
-    requires { IsRecordable entry.now }
+    requires { IsWritable entry.now }
     ensures { result ≡ length (record_of entry.now) }
 {
     8 + act_length(&entry.act)

@@ -6,14 +6,22 @@ mod fields;
 mod grants;
 mod laws;
 mod lengths;
+mod packed;
 mod reading;
+mod round_writing;
+mod rounds;
 #[cfg(test)]
 mod tests;
 mod writing;
 
-pub use laws::{no_record_begins_another, records_are_cut_one_way, records_read_back};
+pub use laws::{
+    both_versions_say_it, no_act_begins_another, no_record_begins_another, records_are_cut_one_way,
+    records_read_back, rounds_are_read_one_way,
+};
 pub use lengths::entry_length;
 pub use reading::read_entry;
+pub use round_writing::{round_length, write_round};
+pub use rounds::read_round;
 pub use writing::write_entry;
 
 /// Why bytes are no record.

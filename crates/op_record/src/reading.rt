@@ -1,6 +1,7 @@
 //! Acts and entries, read from left to right.
 
 ghost use Rattle.std.specs.Prelude.{◌≡◌, ◌≤◌, ◌++◌, ℕ, List, length, IfOk};
+ghost use Rattle.op_time.specs.declared.TheConstants.{LAST};
 ghost use Rattle.op_model.specs.declared.act.Entry.{Entry};
 ghost use Rattle.op_record.specs.declared.RecordFault.TheVariants.{Short, Bad};
 ghost use Rattle.op_record.specs.Records.{record_of};
@@ -8,7 +9,7 @@ ghost use Rattle.op_record.specs.Reading.{reading};
 ghost use Rattle.op_record.specs.Cuts.{HasRecord, IsFound, IsCut, IsBadAt, IsUnlessMemory};
 ghost use Rattle.op_model.specs.declared.act.Act.TheVariants as acts;
 ghost use Rattle.op_record.specs.Readers.{Gives};
-ghost use Rattle.op_record.specs.Rows.{origin_set_at, asset_added_at, address_added_at, moved_at, rate_set_at, incoming_made_at, quote_made_at, grant_asked_at, outgoing_made_at, outgoing_failed_at, attempted_at, provider_at, receiving_at, grant_at, sending_at, fields_at, act_at, entry_at};
+ghost use Rattle.op_record.specs.Rows.{origin_set_at, asset_added_at, address_added_at, moved_at, rate_set_at, incoming_made_at, quote_made_at, grant_asked_at, outgoing_made_at, outgoing_failed_at, attempted_at, outgoing_direct_at, provider_at, receiving_at, grant_at, sending_at, fields_at, act_at, entry_at, entry_of_round_at};
 
 use crate::RecordFault;
 use crate::fault::{Fault, ReadError};
@@ -21,6 +22,12 @@ use op_model::{Act, CodeText, Entry, Text};
 use op_names::{AddressPath, ClientText, Origin};
 use op_time::Moment;
 use std::alloc::Global;
+
+/// The highest kind that version 1 has.
+const HIGHEST_OF_VERSION_1: u8 = 24;
+
+/// The highest kind that version 2 has.
+const HIGHEST_OF_VERSION_2: u8 = 25;
 
 #[tactic(auto, unfolding(crate::specs::Rows::origin_set_at, crate::specs::Readers::bind, crate::specs::Readers::done))]
 fn origin_set_at(bytes: &[u8]) -> Result<(Act, &[u8]), ReadError>
@@ -217,6 +224,35 @@ fn attempted_at(bytes: &[u8]) -> Result<(Act, &[u8]), ReadError>
     Ok((Act::Attempted { event, outcome }, rest))
 }
 
+#[tactic(auto, unfolding(crate::specs::Rows::outgoing_direct_at, crate::specs::Readers::bind, crate::specs::Readers::done))]
+fn outgoing_direct_at(alloc: Global, bytes: &[u8]) -> Result<(Act, &[u8]), ReadError>
+    ensures { Gives (λ x. (x.0, x.1.now)) result (outgoing_direct_at bytes.now) }
+{
+    let (grant, rest) = u64_at(bytes)?;
+    let (address, rest) = u32_at(rest)?;
+    let (incoming, rest) = u64_at(rest)?;
+    let (debit, rest) = u64_at(rest)?;
+    let (source, rest) = u64_at(rest)?;
+    let (fee, rest) = u64_at(rest)?;
+    let (receive, rest) = u64_at(rest)?;
+    let (num, rest) = u64_at(rest)?;
+    let (den, rest) = u64_at(rest)?;
+    let (metadata, rest) = some_text_at(alloc, rest, 1024)?;
+    let act = Act::OutgoingDirect {
+        grant,
+        address,
+        incoming,
+        debit,
+        source,
+        fee,
+        receive,
+        num,
+        den,
+        metadata,
+    };
+    Ok((act, rest))
+}
+
 /// Kinds 1 to 6: what the provider does.
 #[tactic(auto, unfolding(crate::specs::Rows::provider_at, crate::specs::Readers::bind, crate::specs::Readers::done))]
 fn provider_at(alloc: Global, kind: u8, bytes: &[u8]) -> Result<(Act, &[u8]), ReadError>
@@ -300,11 +336,11 @@ fn grant_at(alloc: Global, kind: u8, bytes: &[u8]) -> Result<(Act, &[u8]), ReadE
     }
 }
 
-/// Kinds 19 to 24: outgoing payments and events.
+/// Kinds 19 to 25: outgoing payments and events.
 #[tactic(auto, unfolding(crate::specs::Rows::sending_at, crate::specs::Rows::two_at, crate::specs::Readers::bind, crate::specs::Readers::done))]
 fn sending_at(alloc: Global, kind: u8, bytes: &[u8]) -> Result<(Act, &[u8]), ReadError>
     requires low { 19 ≤ kind }
-    requires high { kind ≤ 24 }
+    requires high { kind ≤ 25 }
     ensures { Gives (λ x. (x.0, x.1.now)) result (sending_at kind bytes.now) }
 {
     match kind {
@@ -325,7 +361,8 @@ fn sending_at(alloc: Global, kind: u8, bytes: &[u8]) -> Result<(Act, &[u8]), Rea
             Ok((Act::OutgoingCompleted { payment, step }, rest))
         }
         23 => outgoing_failed_at(bytes),
-        _ => attempted_at(bytes),
+        24 => attempted_at(bytes),
+        _ => outgoing_direct_at(alloc, bytes),
     }
 }
 
@@ -333,7 +370,7 @@ fn sending_at(alloc: Global, kind: u8, bytes: &[u8]) -> Result<(Act, &[u8]), Rea
 #[tactic(auto, unfolding(crate::specs::Rows::fields_at))]
 fn fields_at(alloc: Global, kind: u8, bytes: &[u8]) -> Result<(Act, &[u8]), ReadError>
     requires low { 1 ≤ kind }
-    requires high { kind ≤ 24 }
+    requires high { kind ≤ 25 }
     ensures { Gives (λ x. (x.0, x.1.now)) result (fields_at kind bytes.now) }
 {
     if kind <= 6 {
@@ -348,28 +385,44 @@ fn fields_at(alloc: Global, kind: u8, bytes: &[u8]) -> Result<(Act, &[u8]), Read
     sending_at(alloc, kind, bytes)
 }
 
-/// A kind and the fields of its act.
+/// A kind up to the highest that is known, and the fields of its act.
 #[tactic(auto, unfolding(crate::specs::Rows::act_at, crate::specs::Readers::bind, crate::specs::Readers::done))]
-fn act_at(alloc: Global, bytes: &[u8]) -> Result<(Act, &[u8]), ReadError>
-    ensures { Gives (λ x. (x.0, x.1.now)) result (act_at bytes.now) }
+fn act_at(alloc: Global, bytes: &[u8], highest: u8) -> Result<(Act, &[u8]), ReadError>
+    requires { highest ≤ 25 }
+    ensures { Gives (λ x. (x.0, x.1.now)) result (act_at highest bytes.now) }
 {
-    let (kind, rest) = byte_between(bytes, 1, 24)?;
+    let (kind, rest) = byte_between(bytes, 1, highest)?;
     fields_at(alloc, kind, rest)
 }
 
-/// A moment and an act.
+/// A moment and an act of version 1.
 #[tactic(auto, unfolding(crate::specs::Rows::entry_at, crate::specs::Readers::bind, crate::specs::Readers::done))]
 pub(crate) fn entry_at(alloc: Global, bytes: &[u8]) -> Result<(Entry, &[u8]), ReadError>
     ensures { Gives (λ x. (x.0, x.1.now)) result (entry_at bytes.now) }
 {
     let (at, rest) = moment_at(bytes)?;
-    match act_at(alloc, rest) {
+    match act_at(alloc, rest, HIGHEST_OF_VERSION_1) {
         Ok((act, rest)) => {
             let at = Moment::at_most_last(at);
             Ok((Entry { at, act }, rest))
         }
         Err(error) => Err(error),
     }
+}
+
+/// An act of version 2, at a moment that was said before.
+#[tactic(auto, unfolding(crate::specs::Rows::entry_of_round_at, crate::specs::Readers::bind, crate::specs::Readers::done))]
+pub(crate) fn entry_of_round_at(
+    alloc: Global,
+    bytes: &[u8],
+    at: u64,
+) -> Result<(Entry, &[u8]), ReadError>
+    requires { at ≤ LAST }
+    ensures { Gives (λ x. (x.0, x.1.now)) result (entry_of_round_at at bytes.now) }
+{
+    let (act, rest) = act_at(alloc, bytes, HIGHEST_OF_VERSION_2)?;
+    let at = Moment::at_most_last(at);
+    Ok((Entry { at, act }, rest))
 }
 
 /// What reading gives of the bytes.

@@ -2,13 +2,13 @@
 //!
 //! Room for the whole record is made first, so that none of these calls is refused and nothing is half written.
 
-ghost use Rattle.std.specs.Prelude.{◌≡◌, ◌≤◌, ◌+◌, ◌++◌, ◌∷◌, [], List, if◌then◌else◌, length, IsOk, OnOk, OnErr, IfSome, vec_len, vec_capacity};
+ghost use Rattle.std.specs.Prelude.{◌≡◌, ◌≤◌, ◌+◌, ◌++◌, ◌∷◌, [], List, if◌then◌else◌, length, map, IsOk, OnOk, OnErr, IfSome, vec_len, vec_capacity};
 ghost use Rattle.std.specs.List.{concat, flat_map};
 ghost use Rattle.op_model.specs.declared.act.Act.TheVariants as acts;
 ghost use Rattle.op_model.specs.declared.grant.Item.{Item};
 ghost use Rattle.op_record.specs.Fields.{number, text, optional, account, mode_number, reason_number, cap, limits, item, items, finish};
 ghost use Rattle.op_record.specs.Records.{act_of, record_of};
-ghost use Rattle.op_record.specs.Recordable.{IsShort, AreLimits, IsFinish, IsItem, AreAbove, AreItems, IsRecordableAct, IsRecordable};
+ghost use Rattle.op_record.specs.Recordable.{IsShort, AreLimits, IsFinish, IsItem, AreAbove, AreItems, IsWithinLimits, IsRecordable};
 ghost use Rattle.op_record.specs.Writing.{Puts};
 
 use crate::lengths::entry_length;
@@ -27,7 +27,7 @@ fn put(out: &mut Vec<u8>, bytes: &[u8])
     let _ = out.extend_from_slice(bytes);
 }
 
-fn put_u8(out: &mut Vec<u8>, n: u8)
+pub(crate) fn put_u8(out: &mut Vec<u8>, n: u8)
     ensures { Puts (n ∷ []) out.old out.new }
 {
     put(out, &[n]);
@@ -48,7 +48,7 @@ fn put_u32(out: &mut Vec<u8>, n: u32)
 }
 
 #[tactic(auto, unfolding(crate::specs::Fields::number))]
-fn put_u64(out: &mut Vec<u8>, n: u64)
+pub(crate) fn put_u64(out: &mut Vec<u8>, n: u64)
     ensures { Puts (number 8 n) out.old out.new }
 {
     put(out, &n.to_be_bytes());
@@ -332,7 +332,7 @@ fn put_grant_asked(
     finish: &Option<Finish>,
     word: &Word,
 )
-    requires { IsRecordableAct (acts.GrantAsked client.now items.now finish.now word.now) }
+    requires { IsWithinLimits (acts.GrantAsked client.now items.now finish.now word.now) }
     ensures { Puts (act_of (acts.GrantAsked client.now items.now finish.now word.now)) out.old out.new }
 {
     put_u8(out, 11);
@@ -399,9 +399,27 @@ fn put_quote_made(
     put_numbers(out, numbers);
 }
 
+/// A payment without a quote, with its seven numbers in the order of its row.
+fn put_outgoing_direct(
+    out: &mut Vec<u8>,
+    grant: u64,
+    address: u32,
+    numbers: &[u64],
+    metadata: &Option<Text>,
+)
+    requires { IfSome metadata.now (IsShort 1024) }
+    ensures { Puts (concat ((25 ∷ []) ∷ number 8 grant ∷ number 4 address ∷ (map (number 8) numbers.now ++ optional text metadata.now ∷ []))) out.old out.new }
+{
+    put_u8(out, 25);
+    put_u64(out, grant);
+    put_u32(out, address);
+    put_numbers(out, numbers);
+    put_some_text(out, metadata);
+}
+
 /// An act's kind and its fields.
-fn put_act(out: &mut Vec<u8>, act: &Act)
-    requires { IsRecordableAct act.now }
+pub(crate) fn put_act(out: &mut Vec<u8>, act: &Act)
+    requires { IsWithinLimits act.now }
     ensures { Puts (act_of act.now) out.old out.new }
 {
     match act {
@@ -480,6 +498,21 @@ fn put_act(out: &mut Vec<u8>, act: &Act)
             reason,
         } => put_outgoing_failed(out, *payment, *step, *reason),
         Act::Attempted { event, outcome } => put_attempted(out, *event, *outcome),
+        Act::OutgoingDirect {
+            grant,
+            address,
+            incoming,
+            debit,
+            source,
+            fee,
+            receive,
+            num,
+            den,
+            metadata,
+        } => {
+            let numbers = [*incoming, *debit, *source, *fee, *receive, *num, *den];
+            put_outgoing_direct(out, *grant, *address, &numbers, metadata)
+        }
     }
 }
 
@@ -493,12 +526,14 @@ fn put_entry(out: &mut Vec<u8>, entry: &Entry)
 }
 
 /// Puts the record of an entry behind what is there. The entry's texts are within their limits, and its items and its
-/// outcome are those of a record. An `Err` changes nothing, and comes only where `out` lacks room of `entry_length`.
+/// outcome are those of a record. The entry is no payment without a quote, which version 1 does not have. An `Err` changes
+/// nothing, and comes only where `out` lacks room of `entry_length`. No room is given back.
 pub fn write_entry(entry: &Entry, out: &mut Vec<u8>) -> Result<(), AllocError>
     requires { IsRecordable entry.now }
     ensures ok { OnOk result (out.new.items ≡ out.old.items ++ record_of entry.now) }
     ensures err { OnErr result (out.new.items ≡ out.old.items) }
     ensures room { vec_len out.old + length (record_of entry.now) ≤ vec_capacity out.old → IsOk result }
+    ensures kept { vec_capacity out.old ≤ vec_capacity out.new }
 {
     out.reserve(entry_length(entry))?;
     put_entry(out, entry);

@@ -13,6 +13,9 @@ three_parts (Err error) a b c d is e = tt
 pub and_then : (old new written part told : List ℕ) → new ≡ old ++ part → old ≡ written → part ≡ told → new ≡ written ++ told
 and_then old new written part told is so_far e = is ∙ (ap (λ x. x ++ part) so_far ∙ ap (λ x. written ++ x) e)
 
+pub behind_three : (out a b c : List ℕ) → ((out ++ a) ++ b) ++ c ≡ out ++ ((a ++ b) ++ c)
+behind_three out a b c = simp append_assoc
+
 pub nine_parts : (a b c d e f g h i : List ℕ) → (((((((a ++ b) ++ c) ++ d) ++ e) ++ f) ++ g) ++ h) ++ i ≡ a ++ (b ++ (c ++ (d ++ (e ++ (f ++ (g ++ (h ++ i)))))))
 nine_parts a b c d e f g h i = simp append_assoc
 

@@ -1,33 +1,22 @@
 -- The history of the worked purchase, by computation: it is legal, and its audit is this text.
-use Rattle.std.proofs.Common.{◌≡◌, refl, lit≤, ℕ, List, [], ◌∷◌, codes, take, drop, subst, sym, append-nil}
-use Rattle.std.specs.Prelude.{fold, Some, None, MatchOption}
+use Rattle.std.proofs.Common.{◌≡◌, refl, lit≤, List, [], ◌∷◌, codes, take, drop}
+use Rattle.std.specs.Prelude.{fold}
 use Rattle.std.specs.Fmt.{digits}
 use Rattle.std.specs.Str.Lossy.{utf8_valid_len}
-use Rattle.std.specs.declared.option.Option.{Option}
 use Rattle.hex.proofs.OnLiterals.{hex_on_literals}
 use Rattle.url.proofs.OnLiterals.{url_on_literals}
 use Rattle.op_model.specs.Audit.{audited}
-use Rattle.op_model.specs.History.{with_act}
-use Rattle.op_model.specs.Legal.{IsLegal, IsNext}
-use Rattle.op_model.specs.declared.act.Act.{Act}
+use Rattle.op_model.specs.Legal.{IsLegal}
 use Rattle.op_model.specs.declared.act.Entry.{Entry}
-use Rattle.op_model.proofs.LegalNext.{legal-next}
+use Rattle.op_model.proofs.LegalNext.{MayFollow, legal-with_act}
 use Rattle.op_reply.proofs.WorkedPurchase.{Done, purchase, moment, outcome, after, history_after}
 
 -- ---- tasks leave a legal history where each act may follow those before it
-
--- the act, where there is one, may follow the history
-abbrev MayFollow : List Entry → ℕ → Option Act → Type 0
-MayFollow history t act = MatchOption act (Unit {0}) (λ a. IsNext history (record { at = t; act = a }))
 
 -- each of the tasks, done behind the history, one after another
 abbrev AllFollow : List Entry → List Done → Type 0
 AllFollow history [] = Unit {0}
 AllFollow history (done ∷ rest) = MayFollow history (moment done.turn) (outcome history done).act × AllFollow (after history done) rest
-
-legal-with_act : (history : List Entry) (t : ℕ) (act : Option Act) → IsLegal history → MayFollow history t act → IsLegal (with_act history t act)
-legal-with_act history t None legal follows = subst IsLegal (sym (append-nil history)) legal
-legal-with_act history t (Some a) legal follows = (legal-next history (record { at = t; act = a })).1 (legal, follows)
 
 legal-fold : (history : List Entry) (tasks : List Done) → IsLegal history → AllFollow history tasks → IsLegal (fold after history tasks)
 legal-fold history [] legal follow = legal

@@ -168,7 +168,11 @@ pub fn rate<'x>(
 }
 
 /// How far an outgoing payment has come.
-pub fn outgoing_inspected(alloc: Global, number: u64, payment: &ProgressShown) -> Result<Json, AllocError>
+pub fn outgoing_inspected(
+    alloc: Global,
+    number: u64,
+    payment: &ProgressShown,
+) -> Result<Json, AllocError>
     ensures { IfOk result (λ json. data_of json ≡ outgoing_inspected_data number payment.now) }
 {
     object(

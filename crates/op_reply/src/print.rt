@@ -1,15 +1,17 @@
 //! Replies as bytes: status line, fields and body (RFC 9112, sections 4 to 6).
 ghost use Rattle.std.specs.Prelude.{◌≡◌, ◌++◌, Some, None, IfOk, OnOk, codes, option_map, unwrap_or, []};
 ghost use Rattle.serde_json.specs.Written.{compact_text};
+ghost use Rattle.http.specs.StatusCode.{reason_phrase};
 ghost use Rattle.op_model.specs.Bodies.{grant_url};
 ghost use Rattle.op_model.specs.Printed.{printed, message as message_text, line_if, content_lines};
 ghost use Rattle.op_reply.specs.Printable.{IsPrintable};
 ghost use Rattle.op_reply.specs.Values.{data_of};
-ghost use Rattle.op_reply.specs.Said.{said_of};
+ghost use Rattle.op_reply.specs.Said.{said_of, status_line};
 
 use crate::replies::said;
 use crate::said::Said;
 use crate::values::Json;
+use http::StatusCode;
 use op_model::{Reply, Text};
 use op_names::Origin;
 use std::alloc::{AllocError, Global};
@@ -22,6 +24,25 @@ fn body_text(alloc: Global, body: &Option<Json>) -> Result<Option<Vec<u8>>, Allo
         Some(json) => Ok(Some(json.text(alloc)?)),
         None => Ok(None),
     }
+}
+
+/// The phrase of a status, or nothing where it has none.
+fn phrase(status: StatusCode) -> &'static str
+    ensures { result.now ≡ unwrap_or (reason_phrase status) [] }
+{
+    match status.canonical_reason() {
+        Some(phrase) => phrase,
+        None => "",
+    }
+}
+
+/// The digits of a status, a blank, and its phrase.
+fn put_status(out: &mut Vec<u8>, status: StatusCode) -> Result<(), AllocError>
+    ensures { OnOk result (out.new.items ≡ out.old.items ++ status_line status) }
+{
+    out.extend_from_slice(status.as_str().as_bytes())?;
+    out.extend_from_slice(b" ")?;
+    out.extend_from_slice(phrase(status).as_bytes())
 }
 
 /// The field that tells the methods of a path.
@@ -79,7 +100,7 @@ fn message(alloc: Global, said: &Said<'_>, body: &Option<Vec<u8>>) -> Result<Vec
 {
     let mut out = Vec::new(alloc);
     out.extend_from_slice(b"HTTP/1.1 ")?;
-    out.extend_from_slice(said.status.as_bytes())?;
+    put_status(&mut out, said.status)?;
     out.extend_from_slice(b"\r\n")?;
     put_allow(&mut out, said.allow)?;
     out.extend_from_slice(b"connection: close\r\n")?;

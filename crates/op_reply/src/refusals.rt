@@ -6,21 +6,22 @@ ghost use Rattle.op_model.specs.Bodies.{digits, optional, text_if};
 ghost use Rattle.serde_json.specs.Data.{no_members};
 ghost use Rattle.op_reply.specs.Fields.{members_data, AreTexts, is_ascending, is_behind};
 ghost use Rattle.op_reply.specs.Values.{data_of};
-ghost use Rattle.op_reply.specs.Said.{said_of};
+ghost use Rattle.op_reply.specs.Said.{said_of, status_line};
 ghost use Rattle.op_reply.specs.Printable.{IsRefusalText};
 
 use crate::fields::{Field, object};
 use crate::said::Said;
 use crate::values::Json;
+use http::StatusCode;
 use op_model::{Refusal, Text};
 use op_names::Origin;
 use std::alloc::{AllocError, Global};
 
-const BAD_REQUEST: &str = "400 Bad Request";
+const BAD_REQUEST: StatusCode = StatusCode::BAD_REQUEST;
 
-const FORBIDDEN: &str = "403 Forbidden";
+const FORBIDDEN: StatusCode = StatusCode::FORBIDDEN;
 
-const CONFLICT: &str = "409 Conflict";
+const CONFLICT: StatusCode = StatusCode::CONFLICT;
 
 /// `{"error":{..}}`
 fn error_of(alloc: Global, members: &[(&str, Field<'_>)]) -> Result<Json, AllocError>
@@ -33,8 +34,8 @@ fn error_of(alloc: Global, members: &[(&str, Field<'_>)]) -> Result<Json, AllocE
 }
 
 /// A refusal that tells its code alone: `{"error":{"code":..}}`.
-fn refused<'a>(alloc: Global, status: &'static str, code: &str) -> Result<Said<'a>, AllocError>
-    ensures { IfOk result (λ said. said_of said ≡ telling status.now (error_data code.now)) }
+fn refused<'a>(alloc: Global, status: StatusCode, code: &str) -> Result<Said<'a>, AllocError>
+    ensures { IfOk result (λ said. said_of said ≡ telling (status_line status) (error_data code.now)) }
 {
     Ok(Said::telling(status, error(alloc, code)?))
 }
@@ -49,11 +50,11 @@ fn error(alloc: Global, code: &str) -> Result<Json, AllocError>
 /// The bytes from an offset on are no request: `{"error":{"at":..,"code":..}}`.
 fn refused_at<'a>(
     alloc: Global,
-    status: &'static str,
+    status: StatusCode,
     code: &str,
     at: u64,
 ) -> Result<Said<'a>, AllocError>
-    ensures { IfOk result (λ said. said_of said ≡ telling status.now (at_data code.now at)) }
+    ensures { IfOk result (λ said. said_of said ≡ telling (status_line status) (at_data code.now at)) }
 {
     let error = error_of(
         alloc,
@@ -63,6 +64,7 @@ fn refused_at<'a>(
 }
 
 /// A member or a parameter is wrong: `{"error":{"code":"bad_field","name":..}}`.
+#[tactic(auto, unfolding(crate::specs::Said::status_line))]
 fn bad_field<'a>(alloc: Global, name: &Text) -> Result<Said<'a>, AllocError>
     requires { IsUtf8 name.now }
     ensures { IfOk result (λ said. said_of said ≡ bad_request (name_data (codes "bad_field") name.now)) }
@@ -75,6 +77,7 @@ fn bad_field<'a>(alloc: Global, name: &Text) -> Result<Said<'a>, AllocError>
 }
 
 /// A request for a grant is wrong, in the member of this name or as a whole: `{"error":{"code":..,"name":..}}`.
+#[tactic(auto, unfolding(crate::specs::Said::status_line))]
 fn invalid_request<'a>(alloc: Global, name: &Option<Text>) -> Result<Said<'a>, AllocError>
     requires { IfSome name.now IsUtf8 }
     ensures { IfOk result (λ said. said_of said
@@ -88,6 +91,7 @@ fn invalid_request<'a>(alloc: Global, name: &Option<Text>) -> Result<Said<'a>, A
 }
 
 /// A conflict with a value: `{"error":{"code":..,NAME:..}}`, where the name stands behind `code`.
+#[tactic(auto, unfolding(crate::specs::Said::status_line))]
 fn conflict_with<'a>(
     alloc: Global,
     code: &str,
@@ -105,6 +109,7 @@ fn conflict_with<'a>(
 }
 
 /// Too little is available: `{"error":{"available":..,"code":"short"}}`.
+#[tactic(auto, unfolding(crate::specs::Said::status_line))]
 fn short<'a>(alloc: Global, available: u64) -> Result<Said<'a>, AllocError>
     ensures { IfOk result (λ said. said_of said ≡ conflict (short_data available)) }
 {
@@ -116,6 +121,7 @@ fn short<'a>(alloc: Global, available: u64) -> Result<Said<'a>, AllocError>
 }
 
 /// An access rule fails: `{"error":{"code":"access_denied","rule":..,"spent":..}}`, where `spent` may be left out.
+#[tactic(auto, unfolding(crate::specs::Said::status_line))]
 fn access_denied<'a>(alloc: Global, rule: u8, spent: Option<u64>) -> Result<Said<'a>, AllocError>
     ensures { IfOk result (λ said. said_of said ≡ telling (codes "403 Forbidden") (denied_data rule spent)) }
 {
@@ -146,11 +152,12 @@ fn rule_text(rule: u8) -> &'static str
 }
 
 /// A client has to show who it is (RFC 9635, section 9.1).
+#[tactic(auto, unfolding(crate::specs::Said::status_line))]
 fn unauthorized<'a>(alloc: Global, origin: &'a Origin, code: &str) -> Result<Said<'a>, AllocError>
     ensures { IfOk result (λ said. said_of said ≡ unauthorized_said origin.now code.now) }
 {
     Ok(Said {
-        status: "401 Unauthorized",
+        status: StatusCode::UNAUTHORIZED,
         allow: None,
         challenge: Some(origin),
         body: Some(error(alloc, code)?),
@@ -158,6 +165,7 @@ fn unauthorized<'a>(alloc: Global, origin: &'a Origin, code: &str) -> Result<Sai
 }
 
 /// Another method was used than those of the path (RFC 9110, section 15.5.6).
+#[tactic(auto, unfolding(crate::specs::Said::status_line))]
 fn method_not_allowed(alloc: Global, allow: &Text) -> Result<Said<'_>, AllocError>
     ensures { IfOk result (λ said. said_of said ≡ record {
       status = codes "405 Method Not Allowed";
@@ -167,7 +175,7 @@ fn method_not_allowed(alloc: Global, allow: &Text) -> Result<Said<'_>, AllocErro
     }) }
 {
     Ok(Said {
-        status: "405 Method Not Allowed",
+        status: StatusCode::METHOD_NOT_ALLOWED,
         allow: Some(allow),
         challenge: None,
         body: Some(error(alloc, "method_not_allowed")?),
@@ -175,6 +183,7 @@ fn method_not_allowed(alloc: Global, allow: &Text) -> Result<Said<'_>, AllocErro
 }
 
 /// What a refusal says.
+#[tactic(auto, unfolding(crate::specs::Said::status_line))]
 pub fn refusal_said<'a>(
     alloc: Global,
     origin: &'a Origin,
@@ -187,17 +196,17 @@ pub fn refusal_said<'a>(
         Refusal::BadHttp { at } => refused_at(alloc, BAD_REQUEST, "bad_http", *at),
         Refusal::LengthRequired { at } => refused_at(
             alloc,
-            "411 Length Required",
+            StatusCode::LENGTH_REQUIRED,
             "length_required",
             *at,
         ),
         Refusal::RequestTooLarge { at } => refused_at(
             alloc,
-            "413 Payload Too Large",
+            StatusCode::PAYLOAD_TOO_LARGE,
             "request_too_large",
             *at,
         ),
-        Refusal::NotFound => refused(alloc, "404 Not Found", "not_found"),
+        Refusal::NotFound => refused(alloc, StatusCode::NOT_FOUND, "not_found"),
         Refusal::MethodNotAllowed { allow } => method_not_allowed(alloc, allow),
         Refusal::BadJson => refused(alloc, BAD_REQUEST, "bad_json"),
         Refusal::BadField { name } => bad_field(alloc, name),
@@ -230,8 +239,8 @@ pub fn refusal_said<'a>(
         Refusal::TooSmall => refused(alloc, BAD_REQUEST, "too_small"),
         Refusal::OverReceiver { room } => conflict_with(alloc, "over_receiver", "room", *room),
         Refusal::QuoteExpired => refused(alloc, CONFLICT, "quote_expired"),
-        Refusal::Memory => refused(alloc, "500 Internal Server Error", "out_of_memory"),
-        Refusal::DiskFault => refused(alloc, "503 Service Unavailable", "disk_fault"),
-        Refusal::JournalFull => refused(alloc, "507 Insufficient Storage", "journal_full"),
+        Refusal::Memory => refused(alloc, StatusCode::INTERNAL_SERVER_ERROR, "out_of_memory"),
+        Refusal::DiskFault => refused(alloc, StatusCode::SERVICE_UNAVAILABLE, "disk_fault"),
+        Refusal::JournalFull => refused(alloc, StatusCode::INSUFFICIENT_STORAGE, "journal_full"),
     }
 }

@@ -38,7 +38,9 @@ pub fn said(alloc: Global, reply: &Reply) -> Result<Said<'_>, AllocError>
             available,
             posted,
         } => {
-            Ok(Said::ok(admin::address_inspected(alloc, origin, *number, path, *available, *posted)?))
+            Ok(Said::ok(admin::address_inspected(
+                alloc, origin, *number, path, *available, *posted,
+            )?))
         }
         ReplyBody::Transferred {
             transfer,

@@ -2,17 +2,17 @@
 ghost use Rattle.std.specs.Prelude.{◌≡◌, Some, None, IfOk};
 ghost use Rattle.op_model.specs.Printed.{telling, ok as ok_said, created as created_said, no_content};
 ghost use Rattle.op_reply.specs.Values.{data_of};
-ghost use Rattle.op_reply.specs.Said.{said_of};
+ghost use Rattle.op_reply.specs.Said.{said_of, status_line};
 
 use crate::values::Json;
+use http::StatusCode;
 use op_model::Text;
 use op_names::Origin;
 
 /// What a reply says.
 #[derive(Drop)]
 pub struct Said<'a> {
-    /// The status with its phrase.
-    pub status: &'static str,
+    pub status: StatusCode,
     /// The methods of a path where another was used (RFC 9110, section 10.2.1).
     pub allow: Option<&'a Text>,
     /// The origin at which a grant is asked for, where a proof or a token is missing (RFC 9635, section 9.1).
@@ -22,8 +22,8 @@ pub struct Said<'a> {
 
 impl<'a> Said<'a> {
     /// A status and a body.
-    pub fn telling(status: &'static str, body: Json) -> Said<'a>
-        ensures { said_of result ≡ telling status.now (data_of body) }
+    pub fn telling(status: StatusCode, body: Json) -> Said<'a>
+        ensures { said_of result ≡ telling (status_line status) (data_of body) }
     {
         Said {
             status,
@@ -33,24 +33,27 @@ impl<'a> Said<'a> {
         }
     }
 
+    #[tactic(auto, unfolding(crate::specs::Said::status_line))]
     pub fn ok(body: Json) -> Said<'a>
         ensures { said_of result ≡ ok_said (data_of body) }
     {
-        Said::telling("200 OK", body)
+        Said::telling(StatusCode::OK, body)
     }
 
+    #[tactic(auto, unfolding(crate::specs::Said::status_line))]
     pub fn created(body: Json) -> Said<'a>
         ensures { said_of result ≡ created_said (data_of body) }
     {
-        Said::telling("201 Created", body)
+        Said::telling(StatusCode::CREATED, body)
     }
 
     /// Nothing is told.
+    #[tactic(auto, unfolding(crate::specs::Said::status_line))]
     pub fn gone() -> Said<'a>
         ensures { said_of result ≡ no_content }
     {
         Said {
-            status: "204 No Content",
+            status: StatusCode::NO_CONTENT,
             allow: None,
             challenge: None,
             body: None,

@@ -6,7 +6,7 @@ ghost use Rattle.std.specs.Vec.Iter.{into_iter_items};
 ghost use Rattle.std.specs.IoError.{error_kind};
 ghost use Rattle.std.specs.declared.io.ErrorKind.TheVariants.{InvalidData};
 ghost use Rattle.op_access.specs.Proof.{master_of};
-ghost use Rattle.op_model.specs.Program.{is_command};
+ghost use Rattle.op_session.specs.Program.{is_command};
 ghost use Rattle.wallet.specs.Edges.{path_of};
 ghost use Rattle.wallet.specs.Statuses.{line_of};
 ghost use Rattle.wallet.specs.Words.{journal_of};
@@ -18,6 +18,7 @@ use op_access::HmacVerifier;
 use op_cli::{Outside, wallet_main};
 use op_disk::FileDisk;
 use op_ports::{ReadSource, SystemClock, SystemWords, WriteSink};
+use op_pricing::{OnePercent, PriceHook};
 use std::alloc::{AllocError, Global};
 use std::env::Args;
 use std::io::Printer;
@@ -39,6 +40,7 @@ type Edges<'a> = Outside<
     SystemClock<&'a HostRuntime>,
     SystemWords<&'a HostRuntime>,
     HmacVerifier,
+    OnePercent,
 >;
 
 fn main(rt: HostRuntime) -> ExitCode {
@@ -105,8 +107,9 @@ fn run(rt: &HostRuntime, words: &[String], master: [u8; 32]) -> u8
     wallet_main(rt.alloc(), words, &mut edges(rt, journal, master))
 }
 
-/// The journal's file, standard input, standard output, the system's clock, its random bytes, and the key proofs under
-/// this master secret. The file is opened at the first call on it. No reply depends on a key proof so far.
+/// The journal's file, standard input, standard output, the system's clock, its random bytes, the key proofs under this
+/// master secret, and the fee rule: the amount divided by 100, rounded up. The file is opened at the first call on it. No
+/// reply depends on a key proof or on a fee so far.
 fn edges(rt: &HostRuntime, journal: String, master: [u8; 32]) -> Edges<'_>
     ensures verifier { master_of result.verifier ≡ master }
     ensures journal { path_of result.disk ≡ string_bytes journal }
@@ -118,6 +121,7 @@ fn edges(rt: &HostRuntime, journal: String, master: [u8; 32]) -> Edges<'_>
         clock: SystemClock::new(rt),
         draws: SystemWords::new(rt),
         verifier: HmacVerifier::new(master),
+        hook: PriceHook::keep(OnePercent),
     }
 }
 

@@ -174,6 +174,29 @@ impl Act {
                 event: *event,
                 outcome: *outcome,
             }),
+            Act::OutgoingDirect {
+                grant,
+                address,
+                incoming,
+                debit,
+                source,
+                fee,
+                receive,
+                num,
+                den,
+                metadata,
+            } => Ok(Act::OutgoingDirect {
+                grant: *grant,
+                address: *address,
+                incoming: *incoming,
+                debit: *debit,
+                source: *source,
+                fee: *fee,
+                receive: *receive,
+                num: *num,
+                den: *den,
+                metadata: clone_text(metadata, alloc)?,
+            }),
         }
     }
 }

@@ -446,8 +446,9 @@ impl ReplyBody {
             ReplyBody::QuoteRead { quote } => Ok(ReplyBody::QuoteRead {
                 quote: quote.clone(alloc)?,
             }),
-            ReplyBody::OutgoingMade { outgoing } => Ok(ReplyBody::OutgoingMade {
+            ReplyBody::OutgoingMade { outgoing, spent } => Ok(ReplyBody::OutgoingMade {
                 outgoing: outgoing.clone(alloc)?,
+                spent: *spent,
             }),
             ReplyBody::OutgoingRead { outgoing } => Ok(ReplyBody::OutgoingRead {
                 outgoing: outgoing.clone(alloc)?,

@@ -144,7 +144,9 @@ impl Request {
                 asset: *asset,
                 name: clone_text(name, alloc)?,
             }),
-            Request::InspectAddress { address } => Ok(Request::InspectAddress { address: *address }),
+            Request::InspectAddress { address } => Ok(Request::InspectAddress {
+                address: *address,
+            }),
             Request::Deposit {
                 transfer,
                 account,
@@ -174,8 +176,12 @@ impl Request {
             }),
             Request::AcceptGrant { grant } => Ok(Request::AcceptGrant { grant: *grant }),
             Request::RejectGrant { grant } => Ok(Request::RejectGrant { grant: *grant }),
-            Request::InspectOutgoing { payment } => Ok(Request::InspectOutgoing { payment: *payment }),
-            Request::CancelOutgoing { payment } => Ok(Request::CancelOutgoing { payment: *payment }),
+            Request::InspectOutgoing { payment } => Ok(Request::InspectOutgoing {
+                payment: *payment,
+            }),
+            Request::CancelOutgoing { payment } => Ok(Request::CancelOutgoing {
+                payment: *payment,
+            }),
             Request::ReadAddress { path } => Ok(Request::ReadAddress {
                 path: path.clone(alloc)?,
             }),
@@ -233,11 +239,11 @@ impl Request {
             Request::ReadQuote { quote } => Ok(Request::ReadQuote { quote: *quote }),
             Request::MakeOutgoing {
                 address,
-                quote,
+                asked,
                 metadata,
             } => Ok(Request::MakeOutgoing {
                 address: clone_address(address, alloc)?,
-                quote: *quote,
+                asked: *asked,
                 metadata: clone_metadata(metadata, alloc)?,
             }),
             Request::ListOutgoings {

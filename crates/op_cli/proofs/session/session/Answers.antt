@@ -1,62 +1,76 @@
-use Rattle.std.proofs.Common.{◌≡◌, arith, ap, subst, ◌∙◌, refl}
+use Rattle.std.proofs.Common.{◌≡◌, arith, sym, ap, subst, ◌∙◌, refl}
+use Rattle.op_desk.specs.Wallets.{IsSound}
 use Rattle.op_http.specs.Held.{Held}
-use Rattle.op_model.specs.Session.{Session, settled}
-use Rattle.op_model.specs.Turn.{Standing, turn_limit}
+use Rattle.op_session.specs.Session.{Session, settled}
+use Rattle.op_session.specs.Stood.{opened_with, with_entries}
+use Rattle.op_session.specs.Turn.{Standing, turn_limit}
 use Rattle.op_cli.specs.Kept.{history_at}
 use Rattle.op_cli.specs.Told.{world_of}
 use Rattle.op_cli.specs.Turns.{here}
-use Rattle.op_cli.proofs.Journals.{kept_more, kept_first}
+use Rattle.op_cli.proofs.Journals.{kept_more, kept_first, now_opened, now_with}
 use Rattle.op_cli.proofs.SessionLemmas.{one_more, at_once, at_limit, begins_fresh}
 use Rattle.op_cli.proofs.session.session.Goals as goal
 
 pub loop-answered-init : goal.loop-answered-init
 loop-answered-init g c =
     let world = world_of g.S.Source.left g.C.Clock.answers g.W.Words.words g.K.Sink.written g.V.Verifier.accepts c.args.outside.now in
-    let first = history_at c.args.desk in
-    record {
-      goes_on = λ after end final session.
-          subst (λ (standing : Standing). Session standing after end final) (ap (λ (held : Held). here first held world 0) c.new-reader.ensures ∙ begins_fresh first world) session;
-      kept = kept_first g.D.Disk.tells g.D.Disk.seen g.D.Disk.moment g.D.Disk.since g.D.Disk.images g.D.Disk.faults g.met.D.Disk.only_now first c.args.outside.now.disk c.requires.sound c.requires.ready.spelled;
-      ready = c.requires.ready;
-      at = omega (arith, ap (λ (held : Held). held.at) c.new-reader.ensures);
-      read_kept = refl;
-      disk_kept = refl;
-      write_kept = refl;
-      draw_kept = refl;
-    }
+    let first = history_at c.args.desk in (
+      opened_with first,
+      record {
+        stands = now_opened first;
+        goes_on = λ after end final session.
+            subst (λ (standing : Standing). Session g.F.FeeTerms.allows standing after end final) (ap (λ (held : Held). here (opened_with first) held world 0) c.new-reader.ensures ∙ begins_fresh first world) session;
+        kept = kept_first g.D.Disk.tells g.D.Disk.seen g.D.Disk.moment g.D.Disk.since g.D.Disk.images g.D.Disk.faults g.met.D.Disk.only_now first c.args.outside.now.disk c.requires.sound;
+        ready = c.requires.ready;
+        at = omega (arith, ap (λ (held : Held). held.at) c.new-reader.ensures);
+        read_kept = refl;
+        disk_kept = refl;
+        write_kept = refl;
+        draw_kept = refl;
+      },
+    )
+
+pub turn-requires-clause-sound : goal.turn-requires-clause-sound
+turn-requires-clause-sound g c = let inv = c.loop-answered.invariant in subst IsSound inv.1.stands inv.1.kept.sound
 
 pub loop-answered-preserved : goal.loop-answered-preserved
 loop-answered-preserved g c =
-    let inv = c.loop-answered.invariant in
+    let stood = c.loop-answered.invariant.0 in
+    let inv = c.loop-answered.invariant.1 in
     let n = c.loop-answered._answered in
-    let turned = c.in-Ok.ensures.ok in
-    let moved = c.in-Ok.ensures.moved in
-    record {
-      goes_on = λ after end final rest.
-          let step = turned n c.loop-answered-test.true in
-          inv.goes_on after end final (one_more _ _ step.0 after end final step.1 rest);
-      kept = kept_more g.D.Disk.tells g.D.Disk.seen g.D.Disk.moment g.D.Disk.since g.D.Disk.images g.D.Disk.faults g.met.D.Disk.only_now (history_at c.args.desk) (history_at c.loop-answered.desk) (settled (history_at c.turn.new.desk)) c.args.outside.now.disk c.loop-answered.outside.disk c.turn.new.outside.disk
-          inv.kept inv.disk_kept c.in-Ok.ensures.stands;
-      ready = c.in-Ok.ensures.ready;
-      at = omega (arith, moved, inv.at);
-      read_kept = c.in-Ok.ensures.read_kept (λ e. cc) ∙ inv.read_kept;
-      disk_kept = c.in-Ok.ensures.disk_kept (λ e. cc) (λ e. cc) ∙ inv.disk_kept;
-      write_kept = c.in-Ok.ensures.write_kept (λ e. cc) ∙ inv.write_kept;
-      draw_kept = c.in-Ok.ensures.draw_kept (λ e. cc) ∙ inv.draw_kept;
-    }
+    let turned = c.in-Ok.ensures.ok stood inv.stands in
+    let moved = c.in-Ok.ensures.moved in (
+      with_entries stood turned.0,
+      record {
+        stands = now_with stood turned.0 ∙ sym turned.1;
+        goes_on = λ after end final rest.
+            let step = turned.2 n c.loop-answered-test.true in
+            inv.goes_on after end final (one_more _ _ _ step.0 after end final step.1 rest);
+        kept = kept_more g.D.Disk.tells g.D.Disk.seen g.D.Disk.moment g.D.Disk.since g.D.Disk.images g.D.Disk.faults g.met.D.Disk.only_now (history_at c.args.desk) stood (settled (with_entries stood turned.0)) c.args.outside.now.disk c.loop-answered.outside.disk c.turn.new.outside.disk
+            inv.kept inv.disk_kept turned.3;
+        ready = c.in-Ok.ensures.ready;
+        at = omega (arith, moved, inv.at);
+        read_kept = c.in-Ok.ensures.read_kept (λ e. cc) ∙ inv.read_kept;
+        disk_kept = c.in-Ok.ensures.disk_kept (λ e. cc) (λ e. cc) ∙ inv.disk_kept;
+        write_kept = c.in-Ok.ensures.write_kept (λ e. cc) ∙ inv.write_kept;
+        draw_kept = c.in-Ok.ensures.draw_kept (λ e. cc) ∙ inv.draw_kept;
+      },
+    )
 
 pub returns-in-Err-clause-session : goal.returns-in-Err-clause-session
 returns-in-Err-clause-session g c =
-    let inv = c.loop-answered.invariant in
-    let ended = c.in-Err.ensures.err in (
+    let stood = c.loop-answered.invariant.0 in
+    let inv = c.loop-answered.invariant.1 in
+    let ended = c.in-Err.ensures.err stood inv.stands in (
       ended.0,
-      inv.goes_on _ _ _ (at_once _ _ _ ended.0 (ended.1 c.loop-answered._answered c.loop-answered-test.true)),
-      kept_more g.D.Disk.tells g.D.Disk.seen g.D.Disk.moment g.D.Disk.since g.D.Disk.images g.D.Disk.faults g.met.D.Disk.only_now (history_at c.args.desk) (history_at c.loop-answered.desk) ended.0 c.args.outside.now.disk c.loop-answered.outside.disk c.turn.new.outside.disk
+      inv.goes_on _ _ _ (at_once _ _ _ _ ended.0 (ended.1 c.loop-answered._answered c.loop-answered-test.true)),
+      kept_more g.D.Disk.tells g.D.Disk.seen g.D.Disk.moment g.D.Disk.since g.D.Disk.images g.D.Disk.faults g.met.D.Disk.only_now (history_at c.args.desk) stood ended.0 c.args.outside.now.disk c.loop-answered.outside.disk c.turn.new.outside.disk
           inv.kept inv.disk_kept ended.2,
     )
 
 pub returns-clause-session : goal.returns-clause-session
 returns-clause-session g c =
-    let inv = c.loop-answered.invariant in
+    let stood = c.loop-answered.invariant.0 in
+    let inv = c.loop-answered.invariant.1 in
     let all : c.loop-answered._answered ≡ turn_limit = omega arith in
-    (settled (history_at c.loop-answered.desk), inv.goes_on _ _ _ (at_once _ _ _ _ (at_limit (history_at c.loop-answered.desk) c.loop-answered.reader _ c.loop-answered._answered all)), inv.kept)
+    (settled stood, inv.goes_on _ _ _ (at_once _ _ _ _ _ (at_limit _ stood c.loop-answered.reader _ c.loop-answered._answered all)), inv.kept)

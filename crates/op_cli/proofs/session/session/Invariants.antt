@@ -1,7 +1,8 @@
 use Rattle.std.proofs.Common.{◌≡◌, ◌≤◌, ◌*◌}
-use Rattle.op_model.specs.Session.{Final, Session, begun, settled}
-use Rattle.op_model.specs.World.{World}
-use Rattle.op_model.specs.declared.end.End.{End}
+use Rattle.op_session.specs.Session.{Final, Session, begun, settled}
+use Rattle.op_session.specs.Stood.{Stood, now}
+use Rattle.op_session.specs.World.{World}
+use Rattle.op_session.specs.declared.end.End.{End}
 use Rattle.op_cli.specs.Kept.{history_at, IsReady, Kept}
 use Rattle.op_cli.specs.Told.{world_of}
 use Rattle.op_cli.specs.Turns.{here}
@@ -11,9 +12,10 @@ use Rattle.op_cli.proofs.session.session.Given as goal
 abbrev pub invariant-loop-answered : goal.invariant-loop-answered
 invariant-loop-answered g l =
     let world = world_of g.S.Source.left g.C.Clock.answers g.W.Words.words g.K.Sink.written g.V.Verifier.accepts in
-    record {
-      goes_on : (after : World) (end : End) (final : Final) → Session (here (history_at l.desk) l.reader (world l.outside) l._answered) after end final → Session (begun (history_at l.fn.desk) (world l.fn.outside)) after end final;
-      kept : Kept g.D.Disk.tells g.D.Disk.seen g.D.Disk.moment g.D.Disk.since g.D.Disk.images g.D.Disk.faults (history_at l.fn.desk) (settled (history_at l.desk)) l.fn.outside.disk l.outside.disk;
+    (stood : Stood) × record {
+      stands : now stood ≡ history_at l.desk;
+      goes_on : (after : World) (end : End) (final : Final) → Session g.F.FeeTerms.allows (here stood l.reader (world l.outside) l._answered) after end final → Session g.F.FeeTerms.allows (begun (history_at l.fn.desk) (world l.fn.outside)) after end final;
+      kept : Kept g.D.Disk.tells g.D.Disk.seen g.D.Disk.moment g.D.Disk.since g.D.Disk.images g.D.Disk.faults (history_at l.fn.desk) (settled stood) l.fn.outside.disk l.outside.disk;
       ready : IsReady g.D.Disk.tells l.desk (g.D.Disk.seen l.outside.disk) (g.D.Disk.images l.outside.disk);
       at : l.reader.at ≤ l._answered * 81920;
       read_kept : g.S.Source.faults l.outside.source ≡ g.S.Source.faults l.fn.outside.source;

@@ -1,18 +1,18 @@
-use Rattle.std.proofs.Common.{◌≡◌, ℕ, ◌-◌, ◌≤◌, List, ◌++◌, take, drop, codes, ap, ◌∙◌, lit≤, refl}
-use Rattle.std.specs.Int.{to_be_bytes, w64}
-use Rattle.hex.specs.Hex.{encode_lower}
-use Rattle.op_names.proofs.IdTexts.{last_digits, written}
-use Rattle.op_names.specs.Ids.{hex_of, kind_number}
+use Rattle.std.proofs.Common.{◌≡◌, length, sym, ap, ◌∙◌, arith}
+use Rattle.std.specs.Int.{to_be_bytes, w128}
+use Rattle.uuid.specs.Text.{hyphenated_text, lower}
+use Rattle.uuid.proofs.TextLemmas.{by_index_length}
+use Rattle.op_names.specs.Ids.{kind_number}
+use Rattle.op_names.proofs.IdTexts.{kind_small}
+use Rattle.op_names.proofs.Uuids.{printed, bytes_of}
 use Rattle.op_names.proofs.ids.id_text.Goals as goal
 
-copied : (width number : ℕ) (digits part : List ℕ) (n : ℕ) → n ≡ number → digits ≡ encode_lower (to_be_bytes w64 n)
-    → part ≡ take width (drop (16 - width) digits) → width ≤ 16 → part ≡ hex_of width number
-copied width number digits part n same is taken h = taken ∙ rw (is, same) (last_digits width number h)
+pub copy_from_slice-requires : goal.copy_from_slice-requires
+copy_from_slice-requires c = sym (ap length (c.as_bytes.ensures.value ∙ c.encode_lower-printed.ensures.text) ∙ by_index_length 36 _)
 
 pub returns : goal.returns
 returns c =
-    let kind : c.copy_from_slice.new.self ≡ hex_of 8 (kind_number c.args.id.kind) =
-    copied 8 _ c.digits_of.result _ c.from.result (c.from.ensures ∙ c.number.ensures) c.digits_of.ensures c.copy_from_slice.ensures.after (lit≤ tt) in
-    let number : c.copy_from_slice-2.new.self ≡ hex_of 12 c.args.id.number =
-    copied 12 _ c.digits_of-2.result _ c.args.id.number refl c.digits_of-2.ensures c.copy_from_slice-2.ensures.after (lit≤ tt) in
-    written _ _ c.copy_from_slice.ensures.len ∙ ap (λ k. k ++ codes "-0000-8000-8000-" ++ c.copy_from_slice-2.new.self) kind ∙ ap (λ n. hex_of 8 (kind_number c.args.id.kind) ++ codes "-0000-8000-8000-" ++ n) number
+    let kind : c.from.result ≡ kind_number c.args.id.kind = c.from.ensures ∙ c.number.ensures in
+    let bytes : c.from_u64_pair.result ≡ bytes_of c.args.id = c.from_u64_pair.ensures ∙ ap (to_be_bytes w128) (omega (arith, kind, kind_small c.args.id.kind)) in
+    c.copy_from_slice.ensures.after ∙ c.as_bytes.ensures.value ∙ c.encode_lower-printed.ensures.text
+    ∙ ap (hyphenated_text lower) (c.hyphenated.ensures ∙ bytes) ∙ printed c.args.id

@@ -9,7 +9,7 @@ use Rattle.op_desk.proofs.Batches.{kept_next, behind_next}
 use Rattle.op_desk.proofs.batch.Batch.act.Goals as goal
 
 pub invariant_of-self-2 : goal.invariant_of-self-2
-invariant_of-self-2 c =
+invariant_of-self-2 g c =
     let e = c.answer-outcome.ensures in
     let entry = c.answer-outcome.result.entry in
     let put = c.put_record.ensures.put ∙ ap (λ (l : List ℕ). l ++ records (option_to_list entry)) c.make_room.ensures.same in
@@ -17,7 +17,7 @@ invariant_of-self-2 c =
     (ap (λ (l : List Bool). slice_get l c.args.index) (ap (λ (v : BatchValue). v.used) c.self.view_is) ∙ c.requires.index)
 
 pub returns-clause-handled : goal.returns-clause-handled
-returns-clause-handled c =
+returns-clause-handled g c =
     let b = c.self.inside in
     let old : b.wallet.history ≡ history_in c.args.self.now = sym (take-append-drop b.begun b.wallet.history) ∙ ap history_in c.self.view_is in
     let new = take-append-drop b.begun c.answer-outcome.new.self.history in
@@ -28,12 +28,12 @@ returns-clause-handled c =
     let reply = c.answer-outcome.result.reply in
     let after = c.answer-outcome.new.self.history in
     let h = c.answer-outcome.ensures.handled place in
-    subst (λ (x : List Entry). Handles (history_in c.args.self.now) c.args.self.now.moment place task word reply x) (sym new)
-    (subst (λ (m : ℕ). Handles (history_in c.args.self.now) m place task word reply after) moment
-    (subst (λ (x : List Entry). Handles x b.moment place task word reply after) old h))
+    subst (λ (x : List Entry). Handles g.F.FeeTerms.allows (history_in c.args.self.now) c.args.self.now.moment place task word reply x) (sym new)
+    (subst (λ (m : ℕ). Handles g.F.FeeTerms.allows (history_in c.args.self.now) m place task word reply after) moment
+    (subst (λ (x : List Entry). Handles g.F.FeeTerms.allows x b.moment place task word reply after) old h))
 
 pub returns-clause-entries : goal.returns-clause-entries
-returns-clause-entries c =
+returns-clause-entries g c =
     let b = c.self.inside in
     let old = ap (λ (v : BatchValue). v.entries) c.self.view_is in (
       c.answer-outcome.result.entry,

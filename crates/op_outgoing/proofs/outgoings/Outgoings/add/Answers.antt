@@ -1,7 +1,8 @@
-use Rattle.std.proofs.Common.{◌≡◌, ◌-◌, ℕ, List, true, false, refl, ap, sym, subst, ◌∙◌, arith, IsTrue, Ok, Err}
+use Rattle.std.proofs.Common.{◌≡◌, ◌-◌, ℕ, List, [], ◌∷◌, ◌++◌, true, false, refl, ap, sym, subst, ◌∙◌, arith, IsTrue, Ok, Err}
 use Rattle.std.specs.Prelude.{is_some, Result, IsErrAnd}
 use Rattle.op_incoming.proofs.Places.{place_of_some}
 use Rattle.op_model.specs.History.{nth}
+use Rattle.op_model.specs.Payments.{made_from_quote}
 use Rattle.op_model.specs.declared.row.OutgoingRow.{OutgoingRow}
 use Rattle.op_outgoing.specs.Value.{OutgoingsValue, is_paid_in, quote_expiry, with_fresh, fresh_row}
 use Rattle.op_model.specs.declared.row.QuoteRow.{QuoteRow}
@@ -30,7 +31,7 @@ push-requires-clause-sound c =
     let x = c.index.result.now in
     let there = subst (λ value. IsTrue (is_some (nth value.quotes q))) (sym c.self.view_is) c.requires in
     let is = quote_at c.self.inside.quotes.items c.self.inside.payments q x c.self.invariant there c.index.ensures in
-    sound_fresh c.args.t q c.args.grant c.args.metadata x.row is.priced
+    rw c.fresh.ensures (sound_fresh (made_from_quote c.args.t c.args.grant q c.args.metadata x.row) is.priced)
 
 pub index_mut-requires : goal.index_mut-requires
 index_mut-requires c =
@@ -46,7 +47,7 @@ invariant_of-self-2 c =
     let x = c.index.result.now in
     let y = c.index_mut.result.now in
     let there = subst (λ value. IsTrue (is_some (nth value.quotes q))) (sym c.self.view_is) c.requires in
-    rw c.in_ok-number.ensures.ok.0 (tied_made quotes.items c.self.inside.payments q y (fresh_row c.args.t q c.args.grant c.args.metadata x.row) c.self.invariant (there_of quotes.items q there) c.index_mut.ensures.value refl)
+    rw c.in_ok-number.ensures.ok.0 rw c.fresh.ensures (tied_made quotes.items c.self.inside.payments q y (fresh_row (made_from_quote c.args.t c.args.grant q c.args.metadata x.row)) c.self.invariant (there_of quotes.items q there) c.index_mut.ensures.value refl)
 
 pub returns-in_err-number-clause-used : goal.returns-in_err-number-clause-used
 returns-in_err-number-clause-used c =
@@ -79,7 +80,7 @@ returns-clause-ok c =
     let rows = c.self.inside.payments in
     let shown : List QuoteRow → List OutgoingRow → OutgoingsValue = λ qs xs. record { quotes = qs; rows = xs } in (
       ap (λ qs. shown qs c.push.new.self) (rows_marked quotes (q - 1) c.index_mut.result.now c.index_mut.ensures.value)
-          ∙ ap (shown (rows_of quotes)) c.in_ok-number.ensures.ok.0
+          ∙ ap (shown (rows_of quotes)) (c.in_ok-number.ensures.ok.0 ∙ ap (λ row. rows ++ row ∷ []) c.fresh.ensures)
           ∙ sym (fresh_is (shown (rows_of quotes) rows) c.args.t q c.args.grant c.args.metadata x.row is.found)
           ∙ ap (λ value. with_fresh value c.args.t q c.args.grant c.args.metadata) c.self.view_is,
       c.in_ok-number.ensures.ok.1,

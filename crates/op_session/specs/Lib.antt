@@ -1,0 +1,5 @@
+pub mod Program
+pub mod Session
+pub mod Stood
+pub mod Turn
+pub mod World
