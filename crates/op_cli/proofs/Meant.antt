@@ -14,12 +14,11 @@ use Rattle.op_model.specs.Json.{object_in, text_in, number_of, optional_in, if_w
 use Rattle.op_model.specs.Meant.{meant_so_far, asked_if_built}
 use Rattle.op_model.specs.Members.{code_in, if_code, scale_in, pieces_in, add_asset_members}
 use Rattle.op_model.specs.Requests.{Raw}
-use Rattle.op_model.specs.RouteTable.{operation_of}
-use Rattle.op_model.specs.declared.operation.Operation.{Operation}
-use Rattle.op_model.specs.declared.operation.Operation.TheVariants as operations
+use Rattle.op_model.specs.RouteTable.{Route, route_of}
 use Rattle.op_model.specs.declared.reply.Refusal.{Refusal}
 use Rattle.op_model.specs.declared.request.Request.{Request}
 use Rattle.op_model.specs.declared.request.Request.TheVariants.{AddAsset}
+use Rattle.op_model.specs.declared.route.Route.TheVariants as routes
 use Rattle.op_cli.specs.Turns.{IsFit}
 
 bound : {A B : Type 0} (r : Result A Refusal) (f : A → Result B Refusal) (y : B) → (r >>= f) ≡ Ok y → (x : A) × (r ≡ Ok x) × (f x ≡ Ok y)
@@ -73,13 +72,13 @@ asset_fit d request e =
     subst IsFit (let is : AddAsset (record { code = code.0; scale = scale.0 }) pieces.0 ≡ request = cc in is)
     (fit code.0 scale.0 pieces.0 c s p)
 
-asked_fit : (raw : Raw) (operation : Operation) (request : Request) → asked_if_built raw operation ≡ Ok request → IsFit request
-asked_fit raw operations.AddAsset request e =
+asked_fit : (raw : Raw) (route : Route) (request : Request) → asked_if_built raw route ≡ Ok request → IsFit request
+asked_fit raw routes.AddAsset request e =
     let object = bound (ok_or (object_in raw.body) _) add_asset_members request e in
     asset_fit object.0 request object.2
 asked_fit raw _ request e = absurd cc
 
 pub meant_fit : (raw : Raw) (request : Request) → meant_so_far raw ≡ Ok request → IsFit request
 meant_fit raw request e =
-    let operation = bound (operation_of raw.method raw.target) (asked_if_built raw) request e in
-    asked_fit raw operation.0 request operation.2
+    let route = bound (route_of raw.method raw.target) (asked_if_built raw) request e in
+    asked_fit raw route.0 request route.2

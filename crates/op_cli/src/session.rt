@@ -27,7 +27,7 @@ use crate::outside::Outside;
 use op_api::{ApiFault, disk_fault_reply, journal_full_reply, prepare};
 use op_desk::{Batch, Desk, RoundFault};
 use op_disk::Disk;
-use op_http::{HttpFault, RawRequest, Reader, write_all};
+use op_http::{HttpFault, RawRequest, Reader, RouteTable, write_all};
 use op_model::{Refusal, Reply, Request, Task, Verdict, Word};
 use op_ports::{Clock, Sink, Source, Verifier, Words};
 use op_pricing::{FeeRule, PriceHook};
@@ -251,6 +251,7 @@ fn refuse_one<K: Sink>(
 /// Answers a request, and writes its reply.
 fn answer_one<D: Disk, K: Sink, V: Verifier, F: FeeRule>(
     alloc: Global,
+    table: &RouteTable,
     raw: &RawRequest,
     verifier: &V,
     answer: u64,
@@ -273,7 +274,7 @@ fn answer_one<D: Disk, K: Sink, V: Verifier, F: FeeRule>(
     ensures write_cause { result ≡ Err WriteFault → Rose (K.faults sink.old) (K.faults sink.new) }
     ensures write_kept { result ≢ Err WriteFault → K.faults sink.new ≡ K.faults sink.old }
 {
-    match prepare(alloc, raw, verifier) {
+    match prepare(alloc, table, raw, verifier) {
         Ok((request, verdict)) => {
             run_request(
                 alloc, request, verdict, answer, word, hook, desk, disk, sink,
@@ -306,6 +307,7 @@ fn unread<K: Sink>(alloc: Global, fault: HttpFault, desk: &Desk, sink: &mut K) -
 /// Asks the clock, draws a word, and answers a request.
 fn reply_to<D: Disk, S: Source, K: Sink, C: Clock, W: Words, V: Verifier, F: FeeRule>(
     alloc: Global,
+    table: &RouteTable,
     raw: &RawRequest,
     desk: &mut Desk,
     outside: &mut Outside<D, S, K, C, W, V, F>,
@@ -332,6 +334,7 @@ fn reply_to<D: Disk, S: Source, K: Sink, C: Clock, W: Words, V: Verifier, F: Fee
     match outside.draws.draw() {
         Ok(word) => answer_one(
             alloc,
+            table,
             raw,
             &outside.verifier,
             answer,
@@ -348,6 +351,7 @@ fn reply_to<D: Disk, S: Source, K: Sink, C: Clock, W: Words, V: Verifier, F: Fee
 /// One turn.
 fn turn<D: Disk, S: Source, K: Sink, C: Clock, W: Words, V: Verifier, F: FeeRule>(
     alloc: Global,
+    table: &RouteTable,
     reader: &mut Reader,
     desk: &mut Desk,
     outside: &mut Outside<D, S, K, C, W, V, F>,
@@ -373,13 +377,14 @@ fn turn<D: Disk, S: Source, K: Sink, C: Clock, W: Words, V: Verifier, F: FeeRule
     ensures draw_kept { result ≢ Err WordsFault → W.faults outside.new.draws ≡ W.faults outside.old.draws }
 {
     match reader.next(alloc, &mut outside.source) {
-        Ok(Some(raw)) => reply_to(alloc, &raw, desk, outside),
+        Ok(Some(raw)) => reply_to(alloc, table, &raw, desk, outside),
         Ok(None) => Err(End::Done),
         Err(fault) => Err(unread(alloc, fault, desk, &mut outside.sink)),
     }
 }
 
-/// A session over the history of a desk: requests are answered in order, until it ends.
+/// A session over the history of a desk: requests are answered in order, until it ends. The table of routes is made at
+/// its start, once.
 pub fn session<D: Disk, S: Source, K: Sink, C: Clock, W: Words, V: Verifier, F: FeeRule>(
     alloc: Global,
     mut desk: Desk,
@@ -399,9 +404,12 @@ pub fn session<D: Disk, S: Source, K: Sink, C: Clock, W: Words, V: Verifier, F: 
     ensures draw_cause { result ≡ WordsFault → Rose (W.faults outside.old.draws) (W.faults outside.new.draws) }
     ensures draw_kept { result ≢ WordsFault → W.faults outside.new.draws ≡ W.faults outside.old.draws }
 {
+    let Ok(table) = RouteTable::new(alloc) else {
+        return End::OutOfMemory;
+    };
     let mut reader = Reader::new(alloc);
     for _answered in 0..TURN_LIMIT {
-        match turn(alloc, &mut reader, &mut desk, outside) {
+        match turn(alloc, &table, &mut reader, &mut desk, outside) {
             Ok(()) => {}
             Err(end) => return end,
         }
