@@ -95,13 +95,12 @@ above low kind h = grind (arith, nat_tests)
 items_short : (history : List Entry) (low : ℕ) (items : List Item) → list_all (λ y. nat_lt low y.kind) (map (item_spelled history) items) ≡ true → list_all is_item (map (item_spelled history) items) ≡ true → is_ascending (map (item_spelled history) items) ≡ true → AreAbove low items
 items_short history low [] over each ascends = tt
 items_short history low (x ∷ xs) over each ascends =
-    let own = both_left (is_item (item_spelled history x)) (list_all is_item (map (item_spelled history) xs)) each in
-    (
+    let own = both_left (is_item (item_spelled history x)) (list_all is_item (map (item_spelled history) xs)) each in (
       above low x.kind (both_left (nat_lt low x.kind) (list_all (λ y. nat_lt low y.kind) (map (item_spelled history) xs)) over),
       item_short history x own,
       items_short history x.kind xs (both_left (list_all (λ y. nat_lt x.kind y.kind) (map (item_spelled history) xs)) _ ascends)
-      (both_right (is_item (item_spelled history x)) (list_all is_item (map (item_spelled history) xs)) each)
-      (both_right (list_all (λ y. nat_lt x.kind y.kind) (map (item_spelled history) xs)) _ ascends),
+          (both_right (is_item (item_spelled history x)) (list_all is_item (map (item_spelled history) xs)) each)
+          (both_right (list_all (λ y. nat_lt x.kind y.kind) (map (item_spelled history) xs)) _ ascends),
     )
 
 above_zero : (kind : ℕ) → 0 < kind → nat_lt 0 kind ≡ true
@@ -125,8 +124,7 @@ are_short : (history : List Entry) (items : List Item) → are_items (map (item_
 are_short history items h =
     let asked = map (item_spelled history) items in
     let counted = both_left (nat_le 1 (length asked) && list_all is_item asked) (is_ascending asked) h in
-    let each = both_right (nat_le 1 (length asked)) (list_all is_item asked) counted in
-    (
+    let each = both_right (nat_le 1 (length asked)) (list_all is_item asked) counted in (
       some_items history items (both_left (nat_le 1 (length asked)) (list_all is_item asked) counted),
       items_short history 0 items (all_above_zero asked each) each (both_right (nat_le 1 (length asked) && list_all is_item asked) (is_ascending asked) h),
     )
@@ -136,8 +134,7 @@ are_short history items h =
 finish_short : (finish : Option Finish) → passes is_finish finish ≡ true → IfSome finish IsFinish
 finish_short None h = tt
 finish_short (Some f) h =
-    let uri = both_left (is_finish_uri f.uri) _ h in
-    (
+    let uri = both_left (is_finish_uri f.uri) _ h in (
       at_most (length f.uri) 512 (both_left (nat_le (length f.uri) 512) _ (both_left (nat_le (length f.uri) 512 && _) _ uri)),
       word_short 128 f.nonce (both_right (is_finish_uri f.uri) (is_word 128 f.nonce) h),
     )
@@ -186,8 +183,7 @@ within_limits history t (acts.Withdrawn transfer account value) next =
 within_limits history t (acts.IncomingMade grant address amount expiry metadata) next =
     metadata_short metadata (both_right _ (passes is_metadata metadata) (both_right _ _ next.proper))
 within_limits history t (acts.GrantAsked client items finish word) next =
-    let rest = both_right (are_items (map (item_spelled history) items)) _ next.proper in
-    (
+    let rest = both_right (are_items (map (item_spelled history) items)) _ next.proper in (
       client_short client (both_left (is_client client) _ rest),
       are_short history items (both_left (are_items (map (item_spelled history) items)) _ next.proper),
       finish_where (is_immediate items) items finish refl (asked_finish history t client items finish word next) (both_right (is_client client) (is_interact (interact_spelled items finish)) rest),

@@ -56,7 +56,7 @@ pub record HasValues (history : List Entry) : Type 0 where
   rates : AllByRecursion (λ e. SetsRateValue e.act) history
   bounds : AllByRecursion IsBounded (incomings history)
 
-rate_small : (n : ℕ) → is_rate_number n ≡ true → n ≤ RATE_TOP
+pub rate_small : (n : ℕ) → is_rate_number n ≡ true → n ≤ RATE_TOP
 rate_small n h = let e = both_right (nat_le 1 n) (nat_le n RATE_TOP) h in grind (arith, nat_tests)
 
 pub value_small : (amount : Amount) → is_amount amount ≡ true → amount.value ≤ TOP
