@@ -7,6 +7,7 @@ mod grants;
 mod laws;
 mod lengths;
 mod packed;
+mod packed_bytes;
 mod reading;
 mod round_writing;
 mod rounds;

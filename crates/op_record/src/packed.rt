@@ -15,7 +15,7 @@ use op_model::Entry;
 use std::alloc::{AllocError, Global};
 
 /// A closed gate: it stands behind each round.
-const CLOSED: u8 = 0;
+pub(crate) const CLOSED: u8 = 0;
 
 /// The length of a payload, the byte 2 and the moment: what a round has before its entries.
 #[tactic(auto, unfolding(crate::specs::Packing::opening_at, crate::specs::Readers::bind))]
