@@ -12,6 +12,7 @@ pub mod RoundSteps
 pub mod RoundLaws
 pub mod Held
 pub mod Pieces
+pub mod PackedSteps
 pub mod Entries
 pub mod Putting
 pub mod LengthLaws

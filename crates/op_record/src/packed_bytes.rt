@@ -1,6 +1,7 @@
 //! The bytes of an open round: a closed gate behind its payload, and the payload's length in front.
 
 ghost use Rattle.std.specs.Prelude.{◌≡◌, ◌≤◌, ◌<◌, ◌+◌, ◌-◌, ◌++◌, ◌∷◌, [], ℕ, List, length, drop, vec_len, vec_capacity};
+ghost use Rattle.op_time.specs.declared.TheConstants.{LAST};
 ghost use Rattle.op_record.specs.Fields.{number};
 ghost use Rattle.op_record.specs.Recordable.{IsWithinLimits};
 ghost use Rattle.op_record.specs.Records.{act_of};
@@ -8,11 +9,13 @@ ghost use Rattle.op_record.specs.Rounds.{round_of};
 ghost use Rattle.op_record.specs.Packing.{body_of};
 ghost use Rattle.op_record.specs.Writing.{Puts};
 
-use crate::packed::CLOSED;
 use crate::round_writing::VERSION_2;
 use crate::writing::{put_act, put_u8, put_u32, put_u64};
 use op_model::Act;
 use op_time::Moment;
+
+/// A closed gate: it stands behind each round.
+pub(crate) const CLOSED: u8 = 0;
 
 /// The length of a payload without entries: the byte 2 and a moment.
 const EMPTY_PAYLOAD: u32 = 9;
@@ -34,7 +37,8 @@ fn put_length(bytes: &mut Vec<u8>, start: usize, count: usize)
 
 /// Puts what a commit asks for of a round without entries.
 pub(crate) fn put_empty_round(bytes: &mut Vec<u8>, at: Moment)
-    ensures { Puts (body_of (round_of at [])) bytes.old bytes.new }
+    ensures put { Puts (body_of (round_of at [])) bytes.old bytes.new }
+    ensures low { at ≤ LAST }
 {
     put_u32(bytes, EMPTY_PAYLOAD);
     put_u8(bytes, VERSION_2);
