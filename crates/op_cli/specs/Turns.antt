@@ -14,7 +14,7 @@ use Rattle.op_ports.specs.Sink.{AppendsFront}
 use Rattle.op_ports.specs.Words.{DrawsKnown}
 use Rattle.op_model.specs.History.{moment_of_turn}
 use Rattle.op_model.specs.Legal.{keeps_forms}
-use Rattle.op_model.specs.Meant.{meant_so_far}
+use Rattle.op_session.specs.Built.{meant_so_far}
 use Rattle.op_model.specs.Printed.{printed}
 use Rattle.op_model.specs.Requests.{Raw}
 use Rattle.op_model.specs.Round.{FeesAllowed, refusal_reply}

@@ -10,7 +10,7 @@ ghost use Rattle.op_desk.specs.Wallets.{IsSound, Handles};
 ghost use Rattle.op_model.specs.History.{moment_of_turn};
 ghost use Rattle.op_model.specs.Legal.{is_proper};
 ghost use Rattle.op_model.specs.declared.act.Entry.{Entry};
-ghost use Rattle.op_model.specs.Meant.{meant_so_far};
+ghost use Rattle.op_session.specs.Built.{meant_so_far};
 ghost use Rattle.op_model.specs.Printed.{is_built, is_built_refusal, printed};
 ghost use Rattle.op_model.specs.Round.{refusal_reply};
 ghost use Rattle.op_model.specs.Verdicts.{verdict_of};

@@ -4,7 +4,7 @@ use Rattle.std.specs.Io.KnownBytes.{Appends}
 use Rattle.std.specs.declared.result.Result.{Result}
 use Rattle.op_desk.specs.Wallets.{Handles}
 use Rattle.op_model.specs.History.{moment_of_turn}
-use Rattle.op_model.specs.Meant.{meant_so_far}
+use Rattle.op_session.specs.Built.{meant_so_far}
 use Rattle.op_model.specs.Printed.{printed}
 use Rattle.op_model.specs.Round.{refusal_reply}
 use Rattle.op_model.specs.Verdicts.{verdict_of}
