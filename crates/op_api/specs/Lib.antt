@@ -1,2 +1,4 @@
 pub mod Body
+pub mod Readers
 pub mod Routes
+pub mod Slots

@@ -2,11 +2,17 @@
 //! its client and its token.
 #![tactic(auto)]
 
-mod body;
+mod access;
 mod constant;
+mod grants;
+mod members;
+mod names;
+mod payments;
+mod provider;
 mod request;
 #[cfg(test)]
 mod tests;
+mod values;
 mod verdict;
 
 pub use constant::{disk_fault_reply, journal_full_reply};

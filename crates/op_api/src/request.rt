@@ -6,9 +6,9 @@ ghost use Rattle.op_api.specs.Body.{IsMeant, IsPrintable, IsReadingFault, refusa
 ghost use Rattle.op_api.specs.Routes.{asked_on};
 ghost use Rattle.op_api.specs.declared.request.ApiFault.TheVariants.{Memory};
 
-use crate::body::read_add_asset;
+use crate::provider::read_add_asset;
 use crate::verdict::verdict_of;
-use op_http::{RawRequest, Route, RouteFault, find_route};
+use op_http::{RawRequest, Route, RouteFault, RouteTable};
 use op_model::{Refusal, Request, Verdict};
 use op_ports::Verifier;
 use std::alloc::{AllocError, Global};
@@ -46,7 +46,6 @@ fn unrouted(fault: RouteFault) -> ApiFault
 /// The request that this one means on its route. A route that is not built yet is not found.
 fn on_route(alloc: Global, route: &Route, raw: &RawRequest) -> Result<Request, ApiFault>
     ensures meant { IsMeant (asked_on route.now raw.now) result }
-    ensures printable { IfErr result IsPrintable }
     ensures forms { IfErr result IsReadingFault }
 {
     match route {
@@ -56,19 +55,19 @@ fn on_route(alloc: Global, route: &Route, raw: &RawRequest) -> Result<Request, A
 }
 
 /// The request that this one means, by its method, target and body.
-fn read_request(alloc: Global, raw: &RawRequest) -> Result<Request, ApiFault>
+fn read_request(alloc: Global, table: &RouteTable, raw: &RawRequest) -> Result<Request, ApiFault>
     ensures meant { IsMeant (meant_so_far raw.now) result }
     ensures printable { IfErr result IsPrintable }
     ensures forms { IfErr result IsReadingFault }
 {
-    match find_route(alloc, raw) {
+    match table.find_route(alloc, raw) {
         Ok(route) => on_route(alloc, &route, raw),
         Err(fault) => Err(unrouted(fault)),
     }
 }
 
 /// The request that this one means, by its method, target and body, and who asks, by its fields. Who asks is not looked
-/// at where it means none.
+/// at where it means none. The table of routes is made once, and lent here.
 ///
 /// # Errors
 ///
@@ -77,6 +76,7 @@ fn read_request(alloc: Global, raw: &RawRequest) -> Result<Request, ApiFault>
 /// member that is missing or breaks its form. `Memory` where memory was wanting.
 pub fn prepare<V: Verifier>(
     alloc: Global,
+    table: &RouteTable,
     raw: &RawRequest,
     verifier: &V,
 ) -> Result<(Request, Verdict), ApiFault>
@@ -85,7 +85,7 @@ pub fn prepare<V: Verifier>(
     ensures printable { IfErr result IsPrintable }
     ensures forms { IfErr result IsReadingFault }
 {
-    let request = read_request(alloc, raw)?;
+    let request = read_request(alloc, table, raw)?;
     let verdict = verdict_of(alloc, raw, verifier)?;
     Ok((request, verdict))
 }

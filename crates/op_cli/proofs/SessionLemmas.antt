@@ -4,11 +4,11 @@ use Rattle.std.specs.declared.option.Option.{Option}
 use Rattle.std.specs.Io.KnownBytes.{prepend_known}
 use Rattle.op_http.specs.Held.{Held}
 use Rattle.op_model.specs.Round.{FeesAllowed}
+use Rattle.op_model.specs.declared.act.Entry.{Entry}
 use Rattle.op_session.specs.Session.{Final, Session, Ends, begun, settled}
 use Rattle.op_session.specs.Stood.{Stood, opened_with}
 use Rattle.op_session.specs.Turn.{Standing, Turn, IsTurn, turn_limit}
 use Rattle.op_session.specs.World.{World}
-use Rattle.op_model.specs.declared.act.Entry.{Entry}
 use Rattle.op_session.specs.declared.end.End.{End}
 use Rattle.op_session.specs.declared.end.End.TheVariants.{TurnLimit}
 use Rattle.op_cli.specs.Turns.{here}

@@ -13,17 +13,17 @@ use Rattle.op_model.specs.Meant.{meant_so_far}
 use Rattle.op_model.specs.Printed.{printed}
 use Rattle.op_model.specs.Requests.{Raw, BeginsWithNoRequest}
 use Rattle.op_model.specs.Round.{FeesAllowed, refusal_reply}
-use Rattle.op_session.specs.Session.{Final, Ends, Cause, AnswersOne, LosesRound, IsRefusal, settled}
-use Rattle.op_session.specs.Stood.{Stood, now, with_entries}
-use Rattle.op_session.specs.Turn.{Turn, Begins, IsTurn, turn_limit}
 use Rattle.op_model.specs.Verdicts.{verdict_of}
-use Rattle.op_session.specs.World.{World}
 use Rattle.op_model.specs.declared.act.Entry.{Entry}
-use Rattle.op_session.specs.declared.end.End.{End}
-use Rattle.op_session.specs.declared.end.End.TheVariants as ends
 use Rattle.op_model.specs.declared.reply.Reply.{Reply}
 use Rattle.op_model.specs.declared.reply.Refusal.{Refusal}
 use Rattle.op_model.specs.declared.reply.Refusal.TheVariants as refusals
+use Rattle.op_session.specs.Session.{Final, Ends, Cause, AnswersOne, LosesRound, IsRefusal, settled}
+use Rattle.op_session.specs.Stood.{Stood, now, with_entries}
+use Rattle.op_session.specs.Turn.{Turn, Begins, IsTurn, turn_limit}
+use Rattle.op_session.specs.World.{World}
+use Rattle.op_session.specs.declared.end.End.{End}
+use Rattle.op_session.specs.declared.end.End.TheVariants as ends
 use Rattle.op_cli.specs.Turns.{here, Turns, Stops, turn_of, Answers, Replies, ReplyFails, RefusalEnds, Unread}
 
 pub asks_none : (told : Option (List ℕ)) → AsksKnown told told []

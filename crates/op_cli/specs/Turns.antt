@@ -18,20 +18,20 @@ use Rattle.op_model.specs.Meant.{meant_so_far}
 use Rattle.op_model.specs.Printed.{printed}
 use Rattle.op_model.specs.Requests.{Raw}
 use Rattle.op_model.specs.Round.{FeesAllowed, refusal_reply}
-use Rattle.op_session.specs.Session.{Final, Ends, Writing, settled, tried_after, unfit_after}
-use Rattle.op_session.specs.Stood.{Stood, now, with_entries}
-use Rattle.op_session.specs.Turn.{Standing, Turn, IsTurn, IsReplied, turn_limit}
 use Rattle.op_model.specs.Verdicts.{verdict_of}
-use Rattle.op_session.specs.World.{World}
 use Rattle.op_model.specs.declared.act.Entry.{Entry}
-use Rattle.op_session.specs.declared.end.End.{End}
-use Rattle.op_session.specs.declared.end.End.TheVariants as ends
 use Rattle.op_model.specs.declared.reply.Reply.{Reply}
 use Rattle.op_model.specs.declared.reply.Refusal.{Refusal}
 use Rattle.op_model.specs.declared.reply.Refusal.TheVariants.{BadHttp, LengthRequired, RequestTooLarge, DiskFault, JournalFull}
 use Rattle.op_model.specs.declared.request.Request.{Request}
 use Rattle.op_model.specs.declared.request.Task.{Task}
 use Rattle.op_model.specs.declared.request.Verdict.{Verdict}
+use Rattle.op_session.specs.Session.{Final, Ends, Writing, settled, tried_after, unfit_after}
+use Rattle.op_session.specs.Stood.{Stood, now, with_entries}
+use Rattle.op_session.specs.Turn.{Standing, Turn, IsTurn, IsReplied, turn_limit}
+use Rattle.op_session.specs.World.{World}
+use Rattle.op_session.specs.declared.end.End.{End}
+use Rattle.op_session.specs.declared.end.End.TheVariants as ends
 
 -- where a session stands: what the reader holds is still to be read
 abbrev pub here : Stood → Held → World → ℕ → Standing

@@ -160,8 +160,8 @@ impl Batch {
     }
 
     /// Answers the task of this index as the plain wallet does, at the round's moment, on the history with the round's
-    /// entries so far, with the fee of the hook's rule where one is asked. The number of these is the task's place. Only a request takes memory, and it is refused where memory
-    /// is short, which adds nothing.
+    /// entries so far, with a fee of the hook's rule where one is asked. The number of these entries is the task's place.
+    /// Only a request takes memory, and it is refused where memory is short, which adds nothing.
     pub fn act<F: FeeRule>(
         &mut self,
         word: &Word,

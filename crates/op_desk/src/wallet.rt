@@ -287,7 +287,7 @@ impl Wallet {
 
     /// Answers a task at a moment as the plain wallet does: its reply, and its act at the end of the history. A request may
     /// be refused for want of memory instead, which changes nothing. The task's act has to be built; `word` are its
-    /// sixteen drawn bytes. The hook has the fee rule. No act that is built is priced, so it is not asked yet.
+    /// sixteen drawn bytes. No task that is built has a price, so the hook is not asked yet.
     pub fn answer<F: FeeRule>(
         &mut self,
         t: Moment,

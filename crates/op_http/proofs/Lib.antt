@@ -2,7 +2,10 @@ pub mod Heads
 pub mod Numbers
 pub mod Reading
 pub mod Requests
-pub mod Routers
+pub mod Routing
+pub mod Segments
 pub mod Stream
+pub mod Tables
 pub mod Telling
+pub mod Walks
 pub mod Windows

@@ -2,6 +2,6 @@ pub mod Head
 pub mod Held
 pub mod Lengths
 pub mod Marks
-pub mod Places
 pub mod Reader
+pub mod Routers
 pub mod Routes

@@ -1,75 +1,13 @@
-//! What a request asks for: an operation, with the parameters that its path has.
+//! Routes, and the parameters that their paths have.
 ghost use Rattle.std.specs.Prelude.{◌≡◌, ◌≤◌, length, IfOk};
 ghost use Rattle.std.specs.List.{position_or_len, after_first};
 ghost use Rattle.op_names.specs.Forms.{is_slash};
-ghost use Rattle.op_model.specs.RouteTable.{is_question, segment, path_of, operation_of};
-ghost use Rattle.op_http.specs.Routes.{route_with, Routed};
+ghost use Rattle.op_model.specs.RouteTable.{is_question, path_of};
+ghost use Rattle.op_http.specs.Routers.{segment, filled};
+ghost use Rattle.op_http.specs.declared.route.RouteFault.TheVariants as faults;
 
-use crate::places::find_operation;
-use crate::request::RawRequest;
-use op_model::{Operation, Text};
+use op_model::{Route, Text};
 use std::alloc::{AllocError, Global};
-
-/// An operation, with its path parameters as they stand in the path.
-#[derive(Drop)]
-pub enum Route {
-    /// `POST /admin/origin`
-    SetOrigin,
-    /// `POST /admin/assets`
-    AddAsset,
-    /// `GET /admin/assets/{code}/{scale}`
-    InspectAsset { code: Text, scale: Text },
-    /// `POST /admin/wallet-addresses`
-    AddAddress,
-    /// `GET /admin/wallet-addresses/{id}`
-    InspectAddress { id: Text },
-    /// `POST /admin/deposits`
-    Deposit,
-    /// `POST /admin/withdrawals`
-    Withdraw,
-    /// `POST /admin/rates`
-    SetRate,
-    /// `POST /admin/interactions/{id}/accept`
-    AcceptGrant { id: Text },
-    /// `POST /admin/interactions/{id}/reject`
-    RejectGrant { id: Text },
-    /// `GET /admin/outgoing-payments/{id}`
-    InspectOutgoing { id: Text },
-    /// `POST /admin/outgoing-payments/{id}/cancel`
-    CancelOutgoing { id: Text },
-    /// `GET` an address path
-    ReadAddress { path: Text },
-    /// `POST /grant`
-    AskGrant,
-    /// `POST /continue/{id}`
-    ContinueGrant { id: Text },
-    /// `DELETE /continue/{id}`
-    CancelGrant { id: Text },
-    /// `POST /token/{id}`
-    RotateToken { id: Text },
-    /// `DELETE /token/{id}`
-    RevokeToken { id: Text },
-    /// `POST /incoming-payments`
-    MakeIncoming,
-    /// `GET /incoming-payments`
-    ListIncomings,
-    /// `GET /incoming-payments/{id}`
-    ReadIncoming { id: Text },
-    /// `POST /incoming-payments/{id}/complete`
-    CompleteIncoming { id: Text },
-    /// `POST /quotes`
-    MakeQuote,
-    /// `GET /quotes/{id}`
-    ReadQuote { id: Text },
-    /// `POST /outgoing-payments`
-    MakeOutgoing,
-    /// `GET /outgoing-payments`
-    ListOutgoings,
-    /// `GET /outgoing-payments/{id}`
-    ReadOutgoing { id: Text },
-    /// `GET /monetization`
-    ReadFeed,
-}
 
 /// Why there is no route.
 #[derive(Drop)]
@@ -80,6 +18,14 @@ pub enum RouteFault {
     BadMethod { allow: Text },
     /// Memory was wanting.
     Memory,
+}
+
+impl From<AllocError> for RouteFault {
+    ghost from_gives = { λ error fault. fault ≡ faults.Memory };
+
+    fn from(_: AllocError) -> RouteFault {
+        RouteFault::Memory
+    }
 }
 
 /// How many bytes stand before the first slash.
@@ -109,7 +55,6 @@ fn behind_slash(text: &[u8]) -> &[u8]
 
 /// A segment of a path. That of number 0 stands behind the first slash.
 fn segment_of(path: &[u8], number: usize) -> &[u8]
-    requires { number ≤ 3 }
     ensures { result.now ≡ segment number path.now }
 {
     let mut rest = behind_slash(path);
@@ -122,97 +67,77 @@ fn segment_of(path: &[u8], number: usize) -> &[u8]
 }
 
 fn segment(alloc: Global, path: &[u8], number: usize) -> Result<Text, AllocError>
-    requires { number ≤ 3 }
     ensures { IfOk result (λ text. text ≡ segment number path.now) }
 {
     Ok(Text::new(Vec::from_slice(alloc, segment_of(path, number))?))
 }
 
-/// The route of an operation.
-fn route_with(alloc: Global, operation: Operation, path: &[u8]) -> Result<Route, AllocError>
-    ensures { IfOk result (λ route. route ≡ route_with operation path.now) }
+/// The route with the segments of a path that are its parameters.
+pub(crate) fn fill(alloc: Global, route: Route<usize>, path: &[u8]) -> Result<Route, AllocError>
+    ensures { IfOk result (λ whole. whole ≡ filled route (λ number. segment number path.now)) }
 {
-    let route = match operation {
-        Operation::SetOrigin => Route::SetOrigin,
-        Operation::AddAsset => Route::AddAsset,
-        Operation::InspectAsset => Route::InspectAsset {
-            code: segment(alloc, path, 2)?,
-            scale: segment(alloc, path, 3)?,
+    let whole = match route {
+        Route::SetOrigin => Route::SetOrigin,
+        Route::AddAsset => Route::AddAsset,
+        Route::InspectAsset { code, scale } => Route::InspectAsset {
+            code: segment(alloc, path, code)?,
+            scale: segment(alloc, path, scale)?,
         },
-        Operation::AddAddress => Route::AddAddress,
-        Operation::InspectAddress => Route::InspectAddress {
-            id: segment(alloc, path, 2)?,
+        Route::AddAddress => Route::AddAddress,
+        Route::InspectAddress { id } => Route::InspectAddress {
+            id: segment(alloc, path, id)?,
         },
-        Operation::Deposit => Route::Deposit,
-        Operation::Withdraw => Route::Withdraw,
-        Operation::SetRate => Route::SetRate,
-        Operation::AcceptGrant => Route::AcceptGrant {
-            id: segment(alloc, path, 2)?,
+        Route::Deposit => Route::Deposit,
+        Route::Withdraw => Route::Withdraw,
+        Route::SetRate => Route::SetRate,
+        Route::AcceptGrant { id } => Route::AcceptGrant {
+            id: segment(alloc, path, id)?,
         },
-        Operation::RejectGrant => Route::RejectGrant {
-            id: segment(alloc, path, 2)?,
+        Route::RejectGrant { id } => Route::RejectGrant {
+            id: segment(alloc, path, id)?,
         },
-        Operation::InspectOutgoing => Route::InspectOutgoing {
-            id: segment(alloc, path, 2)?,
+        Route::InspectOutgoing { id } => Route::InspectOutgoing {
+            id: segment(alloc, path, id)?,
         },
-        Operation::CancelOutgoing => Route::CancelOutgoing {
-            id: segment(alloc, path, 2)?,
+        Route::CancelOutgoing { id } => Route::CancelOutgoing {
+            id: segment(alloc, path, id)?,
         },
-        Operation::ReadAddress => Route::ReadAddress {
-            path: Text::new(Vec::from_slice(alloc, path)?),
+        Route::ReadAddress { path: number } => Route::ReadAddress {
+            path: segment(alloc, path, number)?,
         },
-        Operation::AskGrant => Route::AskGrant,
-        Operation::ContinueGrant => Route::ContinueGrant {
-            id: segment(alloc, path, 1)?,
+        Route::AskGrant => Route::AskGrant,
+        Route::ContinueGrant { id } => Route::ContinueGrant {
+            id: segment(alloc, path, id)?,
         },
-        Operation::CancelGrant => Route::CancelGrant {
-            id: segment(alloc, path, 1)?,
+        Route::CancelGrant { id } => Route::CancelGrant {
+            id: segment(alloc, path, id)?,
         },
-        Operation::RotateToken => Route::RotateToken {
-            id: segment(alloc, path, 1)?,
+        Route::RotateToken { id } => Route::RotateToken {
+            id: segment(alloc, path, id)?,
         },
-        Operation::RevokeToken => Route::RevokeToken {
-            id: segment(alloc, path, 1)?,
+        Route::RevokeToken { id } => Route::RevokeToken {
+            id: segment(alloc, path, id)?,
         },
-        Operation::MakeIncoming => Route::MakeIncoming,
-        Operation::ListIncomings => Route::ListIncomings,
-        Operation::ReadIncoming => Route::ReadIncoming {
-            id: segment(alloc, path, 1)?,
+        Route::MakeIncoming => Route::MakeIncoming,
+        Route::ListIncomings => Route::ListIncomings,
+        Route::ReadIncoming { id } => Route::ReadIncoming {
+            id: segment(alloc, path, id)?,
         },
-        Operation::CompleteIncoming => Route::CompleteIncoming {
-            id: segment(alloc, path, 1)?,
+        Route::CompleteIncoming { id } => Route::CompleteIncoming {
+            id: segment(alloc, path, id)?,
         },
-        Operation::MakeQuote => Route::MakeQuote,
-        Operation::ReadQuote => Route::ReadQuote {
-            id: segment(alloc, path, 1)?,
+        Route::MakeQuote => Route::MakeQuote,
+        Route::ReadQuote { id } => Route::ReadQuote {
+            id: segment(alloc, path, id)?,
         },
-        Operation::MakeOutgoing => Route::MakeOutgoing,
-        Operation::ListOutgoings => Route::ListOutgoings,
-        Operation::ReadOutgoing => Route::ReadOutgoing {
-            id: segment(alloc, path, 1)?,
+        Route::MakeOutgoing => Route::MakeOutgoing,
+        Route::ListOutgoings => Route::ListOutgoings,
+        Route::ReadOutgoing { id } => Route::ReadOutgoing {
+            id: segment(alloc, path, id)?,
         },
-        Operation::ReadFeed => Route::ReadFeed,
+        Route::ReadFeed => Route::ReadFeed,
     };
-    Ok(route)
-}
-
-/// The route of a request. It looks at the method and the target alone.
-///
-/// # Errors
-///
-/// `NoRoute` exactly where the table has no such path, and it is no address path; `BadMethod` exactly where it has the
-/// path and not the method. `Memory` where memory was wanting.
-pub fn find_route(alloc: Global, raw: &RawRequest) -> Result<Route, RouteFault>
-    ensures { Routed (operation_of raw.now.method raw.now.target) (path_of raw.now.target) result }
-{
-    let path = path_of(raw.target());
-    match find_operation(alloc, raw.method(), path) {
-        Ok(operation) => match route_with(alloc, operation, path) {
-            Ok(route) => Ok(route),
-            Err(_) => Err(RouteFault::Memory),
-        },
-        Err(fault) => Err(fault),
-    }
+    Ok(whole)
 }
 
 /// How many bytes stand before the first `?`.
@@ -229,7 +154,7 @@ fn question_at(target: &[u8]) -> usize
 }
 
 /// The path of a target: what stands before its first `?`.
-fn path_of(target: &[u8]) -> &[u8]
+pub(crate) fn path_of(target: &[u8]) -> &[u8]
     ensures { result.now ≡ path_of target.now }
 {
     &target[..question_at(target)]

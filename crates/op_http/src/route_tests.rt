@@ -1,6 +1,8 @@
 //! Every route once, and what is refused. The expected answers follow the table of paths and methods of Open Payments.
 use crate::request::RawRequest;
-use crate::route::{Route, RouteFault, find_route};
+use crate::route::RouteFault;
+use crate::table::RouteTable;
+use op_model::Route;
 use std::alloc::{AllocError, Global};
 use std::process::Abort;
 use std::test::Fail;
@@ -73,15 +75,14 @@ fn asked(alloc: Global, method: &str, target: &str) -> Result<RawRequest, AllocE
 fn expect(
     rt: &impl Abort,
     alloc: Global,
-    request: (&str, &str),
-    name: &str,
-    parameter: &str,
+    table: &RouteTable,
+    case: &(&str, &str, &str, &str),
 ) -> Result<(), Fail> {
-    let raw = asked(alloc, request.0, request.1)?;
-    match find_route(alloc, &raw) {
+    let raw = asked(alloc, case.0, case.1)?;
+    match table.find_route(alloc, &raw) {
         Ok(route) => {
-            assert_eq!(rt; name_of(&route), name);
-            assert!(rt; parameter_of(&route) == parameter.as_bytes());
+            assert_eq!(rt; name_of(&route), case.2);
+            assert!(rt; parameter_of(&route) == case.3.as_bytes());
         }
         Err(_) => assert!(rt; false),
     }
@@ -94,8 +95,9 @@ fn expect_each(
     alloc: Global,
     cases: &[(&str, &str, &str, &str)],
 ) -> Result<(), Fail> {
+    let table = RouteTable::new(alloc)?;
     for case in cases {
-        expect(rt, alloc, (case.0, case.1), case.2, case.3)?;
+        expect(rt, alloc, &table, case)?;
     }
     Ok(())
 }
@@ -104,14 +106,13 @@ fn expect_each(
 fn expect_none(
     rt: &impl Abort,
     alloc: Global,
-    method: &str,
-    target: &str,
-    allowed: &str,
+    table: &RouteTable,
+    case: (&str, &str, &str),
 ) -> Result<(), Fail> {
-    let raw = asked(alloc, method, target)?;
-    match find_route(alloc, &raw) {
+    let raw = asked(alloc, case.0, case.1)?;
+    match table.find_route(alloc, &raw) {
         Ok(_) => assert!(rt; false),
-        Err(fault) => assert!(rt; allowed_by(&fault) == allowed.as_bytes()),
+        Err(fault) => assert!(rt; allowed_by(&fault) == case.2.as_bytes()),
     }
     Ok(())
 }
@@ -190,8 +191,9 @@ fn no_route(rt: HostRuntime) -> Result<(), Fail> {
         ("GET", "/admin", ""),
         ("GET", "alice", ""),
     ];
-    for (method, target, allowed) in cases {
-        expect_none(&rt, rt.alloc(), method, target, allowed)?;
+    let table = RouteTable::new(rt.alloc())?;
+    for case in cases {
+        expect_none(&rt, rt.alloc(), &table, case)?;
     }
     Ok(())
 }

@@ -10,6 +10,7 @@ pub mod CutLaws
 pub mod Many
 pub mod RoundSteps
 pub mod RoundLaws
+pub mod Held
 pub mod Entries
 pub mod Putting
 pub mod LengthLaws

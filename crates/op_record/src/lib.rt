@@ -6,6 +6,7 @@ mod fields;
 mod grants;
 mod laws;
 mod lengths;
+mod packed;
 mod reading;
 mod round_writing;
 mod rounds;

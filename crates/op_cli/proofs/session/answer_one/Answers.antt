@@ -6,8 +6,6 @@ use Rattle.op_desk.specs.Wallets.{Handles}
 use Rattle.op_model.specs.History.{moment_of_turn}
 use Rattle.op_model.specs.Meant.{meant_so_far}
 use Rattle.op_model.specs.Printed.{printed}
-use Rattle.op_session.specs.Session.{settled}
-use Rattle.op_session.specs.Stood.{Stood, now}
 use Rattle.op_model.specs.Round.{refusal_reply}
 use Rattle.op_model.specs.Verdicts.{verdict_of}
 use Rattle.op_model.specs.declared.act.Entry.{Entry}
@@ -16,6 +14,8 @@ use Rattle.op_model.specs.declared.reply.Refusal.TheVariants.{Memory}
 use Rattle.op_model.specs.declared.request.Request.{Request}
 use Rattle.op_model.specs.declared.request.Task.TheVariants.{Ask}
 use Rattle.op_model.specs.declared.request.Verdict.{Verdict}
+use Rattle.op_session.specs.Session.{settled}
+use Rattle.op_session.specs.Stood.{Stood, now}
 use Rattle.op_cli.specs.Kept.{history_at}
 use Rattle.op_cli.specs.Turns.{Told, NotTold, NotHandled, NotWritten, Answers}
 use Rattle.op_cli.proofs.Journals.{leaves_same, leaves_none}

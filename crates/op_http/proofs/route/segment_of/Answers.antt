@@ -1,5 +1,5 @@
 use Rattle.std.proofs.Common.{arith}
-use Rattle.op_http.proofs.Routers.{segment_step}
+use Rattle.op_http.proofs.Segments.{segment_step}
 use Rattle.op_http.proofs.route.segment_of.Goals as goal
 
 pub loop-passed-preserved : goal.loop-passed-preserved

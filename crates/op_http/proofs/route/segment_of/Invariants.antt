@@ -1,5 +1,5 @@
 use Rattle.std.proofs.Common.{◌≡◌, ◌≤◌, ◌-◌}
-use Rattle.op_model.specs.RouteTable.{segment, segment_from}
+use Rattle.op_http.specs.Routers.{segment, segment_from}
 use Rattle.op_http.proofs.route.segment_of.Given as goal
 
 abbrev pub invariant-loop-passed : goal.invariant-loop-passed
