@@ -306,7 +306,7 @@ pays_quote Q history t name quote metadata verdict act each made =
     subst Q (some_is (acts.OutgoingMade who.0.grant row.0.number metadata) act past.1)
     (each who.0.grant row.0.number (grant_there history t verdict who.0 who.1) (ap is_some (found_there (quote_row history) (row_named history kinds.Quote quote) row.0 row.1).1))
 
-pub pays_directly : (Q : Act → Type 0) (history : List Entry) (t fee : ℕ) (name : Option AddressName) (receiver : Option RowName) (debit : Amount) (metadata : Option (List ℕ)) (verdict : Verdict) (act : Act) → ((g n : ℕ) (it : Found IncomingRow) (price : Priced) → HasGrant history g → HasAddress history n → HasIncoming history it.number → direct_price history fee debit n it ≡ Ok price → Q (direct_act g n it.number price metadata)) → act_in (pay_directly history t fee name receiver debit metadata verdict) ≡ Some act → Q act
+pub pays_directly : (Q : Act → Type 0) (history : List Entry) (t fee : ℕ) (name : Option AddressName) (receiver : Option RowName) (debit : Amount) (metadata : Option (List ℕ)) (verdict : Verdict) (act : Act) → ((g n : ℕ) (it : Found IncomingRow) (price : Priced) → HasGrant history g → HasAddress history n → incoming_row history it.number ≡ Some it.row → direct_price history fee debit n it ≡ Ok price → Q (direct_act g n it.number price metadata)) → act_in (pay_directly history t fee name receiver debit metadata verdict) ≡ Some act → Q act
 pays_directly Q history t fee name receiver debit metadata verdict act each made =
     let who = past_step (caller history t verdict) _ act made in
     let address = address_named history name in
@@ -318,7 +318,7 @@ pays_directly Q history t fee name receiver debit metadata verdict act each made
     let opened = past_refusal (not (is_open history named.0.number named.0.row t)) ReceiverClosed _ act known.1 in
     let price = past_step (direct_price history fee debit there.0 named.0) (λ (x : Priced). Ok (Some (direct_act who.0.grant there.0 named.0.number x metadata))) act opened.1 in
     subst Q (some_is (direct_act who.0.grant there.0 named.0.number price.0 metadata) act price.2)
-    (each who.0.grant there.0 named.0 price.0 (grant_there history t verdict who.0 who.1) (address_there history name there.0 there.1) (receiver_is_there history receiver named.0 named.1) price.1)
+    (each who.0.grant there.0 named.0 price.0 (grant_there history t verdict who.0 who.1) (address_there history name there.0 there.1) (found_there (incoming_row history) (row_named history kinds.Incoming receiver) named.0 named.1).1 price.1)
 
 -- ---- all requests
 
@@ -356,7 +356,7 @@ request_names history t word fee (requests.MakeQuote address receiver asked) ver
 request_names history t word fee (requests.ReadQuote quote) verdict act made = reads_row history t actions.quote (option_map quote_place (option_and_then (quote_row history) quote)) verdict act made
 request_names history t word fee (requests.MakeOutgoing address (Quoted quote) metadata) verdict act made = pays_quote (NamesMade history) history t address quote metadata verdict act (λ g q grant there. (grant, there)) made
 request_names history t word fee (requests.MakeOutgoing address (Direct receiver debit) metadata) verdict act made =
-    pays_directly (NamesMade history) history t fee address receiver debit metadata verdict act (λ g n it price grant there incoming is. (grant, there, incoming)) made
+    pays_directly (NamesMade history) history t fee address receiver debit metadata verdict act (λ g n it price grant there incoming is. (grant, there, ap is_some incoming)) made
 request_names history t word fee (requests.ListOutgoings address first cursor) verdict act made = lists_rows history t actions.outgoing_payment address verdict act made
 request_names history t word fee (requests.ReadOutgoing outgoing) verdict act made = reads_row history t actions.outgoing_payment (option_map outgoing_place (option_and_then (outgoing_row history) outgoing)) verdict act made
 request_names history t word fee (requests.ReadFeed address page) verdict act made = lists_rows history t actions.outgoing_payment address verdict act made

@@ -152,7 +152,7 @@ module _ (history : List Entry) (counted : AreCounted history) where
       let price_is = price_values fee pricing.0 price pricing.1 pricing.2 in (
         grant_fits g there,
         address_fits n named,
-        incoming_fits it.number waits,
+        incoming_fits it.number (ap is_some waits),
         value_fits price.debit price_is.debit,
         value_fits price.source price_is.source,
         value_fits price.fee price_is.fee,
