@@ -62,7 +62,8 @@ Stands (Some at) bytes points start before entries = IsOpen at bytes points star
 pub record IsKept (p : Inside) : Type 0 where
   pub counted : p.count ≡ length (entries_of p)
   pub before : p.before ≤ p.count
-  pub few : p.count < vec_len p.bytes
+  pub some : 0 < vec_len p.bytes
+  pub few : p.count ≤ vec_len p.bytes
   pub pointed : length p.points.items ≡ (p.count + 15) / stride
   pub room : vec_len p.bytes + p.room ≤ vec_capacity p.bytes
   pub points_room : (p.count + p.room + 15) / stride ≤ vec_capacity p.points

@@ -58,11 +58,7 @@ impl Model for Packed {
 
 /// Makes room for so many bytes more, and for the points of as many entries. What there is grows by an eighth at least, so
 /// that a long history is not copied at each round.
-fn make_room(
-    bytes: &mut Vec<u8>,
-    points: &mut Vec<Point>,
-    space: usize,
-) -> Result<(), AllocError>
+fn make_room(bytes: &mut Vec<u8>, points: &mut Vec<Point>, space: usize) -> Result<(), AllocError>
     ensures bytes { bytes.new.items ≡ bytes.old.items }
     ensures points { points.new.items ≡ points.old.items }
     ensures room { OnOk result ((vec_len bytes.new + space ≤ vec_capacity bytes.new) × (vec_len points.new + space / 16 + 1 ≤ vec_capacity points.new)) }
@@ -147,5 +143,73 @@ impl Packed {
             self.room = room;
         }
         Ok(())
+    }
+
+    /// Puts an entry behind the others. A round is open, and the entry has its moment; the entry's texts are within their
+    /// limits, and its items, numbers and outcome are those of a record. It takes no memory where the spare room covers
+    /// `entry_length` less 8, and lowers the room by that. An `Err` changes nothing, and comes only where memory is refused.
+    pub fn push(&mut self, entry: &Entry) -> Result<(), AllocError>
+        requires round { self.old.moment ≡ Some entry.now.at }
+        requires writable { IsWritable entry.now }
+        requires fits { FitsTypes entry.now }
+        ensures ok { OnOk result (self.new ≡ record { entries = self.old.entries ++ entry.now ∷ []; moment = self.old.moment; round = self.old.round ++ entry.now ∷ []; room = self.old.room - length (act_in entry.now) }) }
+        ensures err { OnErr result (self.new ≡ self.old) }
+        ensures room { length (act_in entry.now) ≤ self.old.room → IsOk result }
+    {
+        let taken = act_length(&entry.act);
+        self.reserve(taken)?;
+        self.put(entry, taken);
+        Ok(())
+    }
+
+    // Puts an entry where there is room for it.
+    fn put(&mut self, entry: &Entry, taken: usize)
+        requires round { self.old.moment ≡ Some entry.now.at }
+        requires writable { IsWritable entry.now }
+        requires fits { FitsTypes entry.now }
+        requires taken { taken ≡ length (act_in entry.now) }
+        requires room { taken ≤ self.old.room }
+        ensures { self.new ≡ record { entries = self.old.entries ++ entry.now ∷ []; moment = self.old.moment; round = self.old.round ++ entry.now ∷ []; room = self.old.room - taken } }
+    {
+        let place = self.bytes.len() - 1;
+        put_in_round(&mut self.bytes, self.start, &entry.act);
+        add_point(&mut self.points, self.count, place, entry.at);
+        self.count += 1;
+        self.room -= taken;
+    }
+
+    /// What a commit asks for: the length of the open round's payload in four bytes, the payload in version 2, and a closed
+    /// gate. The open round has an entry, and its payload has fewer than 2^32 bytes.
+    pub fn body(&self) -> &[u8]
+        requires some { 0 < length self.now.round }
+        requires small { length (payload_of self.now) < 2 ^ 32 }
+        ensures { result.now ≡ body_of (payload_of self.now) }
+    {
+        &self.bytes[self.start..]
+    }
+
+    /// Closes the open round. One without entries leaves nothing.
+    pub fn close(&mut self)
+        requires { IsSome self.old.moment }
+        ensures { self.new ≡ record { entries = self.old.entries; moment = None; round = []; room = self.old.room } }
+    {
+        self.moment = None;
+        if self.before < self.count {
+            return;
+        }
+        self.bytes.truncate(self.start);
+    }
+
+    /// The entry at this place, the first being 1. At most fifteen entries before it are passed, wherever it stands. Its
+    /// texts are kept on the heap.
+    pub fn entry_at(&self, alloc: Global, place: u64) -> Result<Entry, AllocError>
+        requires low { 1 ≤ place }
+        requires high { place ≤ length self.now.entries }
+        ensures { IfOk result (λ entry. entry ≡ slice_index_or self.now.entries (place - 1) entry) }
+    {
+        let index = (place - 1) as usize;
+        let point = self.points[index / STRIDE];
+        let (_, rest) = self.bytes.as_slice().split_at(point.place);
+        entry_in(alloc, rest, point.moment, index % STRIDE)
     }
 }

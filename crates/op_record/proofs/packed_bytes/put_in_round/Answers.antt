@@ -20,7 +20,12 @@ returns-clause-put c = λ text digits payload len four is.
     third.0 ∙ ap (λ (t : List ℕ). t ++ 0 ∷ []) (second.0 ∙ ap (λ (t : List ℕ). t ++ act) first) ∙ appended text digits payload act in
     let all : length c.put_u8.new.out.items ≡ length text + (4 + (length (payload ++ act) + 1)) =
     omega (
-      arith, ap length whole, length-append text (digits ++ ((payload ++ act) ++ 0 ∷ [])), length-append digits ((payload ++ act) ++ 0 ∷ []), length-append (payload ++ act) (0 ∷ []), four,
+      arith,
+      ap length whole,
+      length-append text (digits ++ ((payload ++ act) ++ 0 ∷ [])),
+      length-append digits ((payload ++ act) ++ 0 ∷ []),
+      length-append (payload ++ act) (0 ∷ []),
+      four,
     ) in
     let count : c.len.result - c.args.start - 5 ≡ length (payload ++ act) = omega (arith, all, len, c.len.ensures, c.put_u8.new.out.ok.0) in
     c.put_length.ensures.put text digits ((payload ++ act) ++ 0 ∷ []) len four whole

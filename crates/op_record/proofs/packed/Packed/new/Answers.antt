@@ -10,7 +10,8 @@ invariant_of-result c =
     record {
       counted = sym (ap length f.none);
       before = omega arith;
-      few = omega (arith, c.in_ok-push.ensures.len);
+      some = omega (arith, c.in_ok-push.ensures.len);
+      few = omega arith;
       pointed = ap length c.new.ensures.items;
       room = omega (arith, c.push.new.self.ok.1);
       points_room = omega arith;

@@ -42,6 +42,7 @@ invariant_of-self-2 c =
     record {
       counted = c.self.invariant.counted ∙ sym (ap length s.same);
       before = omega arith;
+      some = omega (arith, long, now.ok.0);
       few = omega (arith, long, now.ok.0, p.bytes.ok.0, c.self.invariant.few);
       pointed = ap length c.make_room.ensures.points ∙ c.self.invariant.pointed;
       room = omega (arith, long, now.ok.0, old.ok.0, old.small, same, room.0, lands.1, added);
