@@ -4,14 +4,14 @@ ghost use Rattle.std.specs.Io.KnownBytes.{Appends};
 ghost use Rattle.std.specs.Str.{IsUtf8};
 ghost use Rattle.op_causes.specs.Causes.{Rose};
 ghost use Rattle.op_desk.specs.Batches.{history_in};
-ghost use Rattle.op_desk.specs.Built.{is_built_task};
+ghost use Rattle.op_desk.specs.Built.{is_built_refusal, is_built_reply, is_built_task};
 ghost use Rattle.op_desk.specs.Spelling.{Stands, history_of};
 ghost use Rattle.op_desk.specs.Wallets.{IsSound, Handles};
 ghost use Rattle.op_model.specs.History.{moment_of_turn};
 ghost use Rattle.op_model.specs.Legal.{is_proper};
 ghost use Rattle.op_model.specs.declared.act.Entry.{Entry};
 ghost use Rattle.op_session.specs.Built.{meant_so_far};
-ghost use Rattle.op_model.specs.Printed.{is_built, is_built_refusal, printed};
+ghost use Rattle.op_model.specs.Printed.{printed};
 ghost use Rattle.op_model.specs.Round.{refusal_reply};
 ghost use Rattle.op_model.specs.Verdicts.{verdict_of};
 ghost use Rattle.op_model.specs.declared.request.Task.TheVariants.{Ask};
@@ -24,7 +24,8 @@ ghost use Rattle.op_cli.specs.Told.{world_of};
 ghost use Rattle.op_cli.specs.Turns.{here, Turns, Stops, IsFit, Handled, NotHandled, NotStood, Told, NotTold, NotWritten, Replies, ReplyFails, RefusalEnds, Unread};
 
 use crate::outside::Outside;
-use op_api::{ApiFault, disk_fault_reply, journal_full_reply, prepare};
+use crate::built::prepare_built;
+use op_api::{ApiFault, disk_fault_reply, journal_full_reply};
 use op_desk::{Batch, Desk, RoundFault};
 use op_disk::Disk;
 use op_http::{HttpFault, RawRequest, Reader, RouteTable, write_all};
@@ -55,7 +56,7 @@ fn write_last<K: Sink>(sink: &mut K, text: &[u8], end: End) -> End
 /// The bytes of a reply. `None` where memory was wanting.
 fn text_of(alloc: Global, reply: Reply) -> Option<Vec<u8>>
     requires origin { IsUtf8 reply.origin }
-    requires built { IsTrue (is_built reply.body) }
+    requires built { IsTrue (is_built_reply reply.body) }
     ensures { IfSome result (λ text. text.items ≡ printed reply) }
 {
     match print_reply(alloc, &reply) {
@@ -274,7 +275,7 @@ fn answer_one<D: Disk, K: Sink, V: Verifier, F: FeeRule>(
     ensures write_cause { result ≡ Err WriteFault → Rose (K.faults sink.old) (K.faults sink.new) }
     ensures write_kept { result ≢ Err WriteFault → K.faults sink.new ≡ K.faults sink.old }
 {
-    match prepare(alloc, table, raw, verifier) {
+    match prepare_built(alloc, table, raw, verifier) {
         Ok((request, verdict)) => {
             run_request(
                 alloc, request, verdict, answer, word, hook, desk, disk, sink,
