@@ -3,12 +3,11 @@
 use Rattle.std.specs.Prelude.{◌≡◌, ℕ, ◌+◌, Bool, false, not, ◌&&◌, ◌==◌, List, [], ◌∷◌, Some, None}
 use Rattle.std.specs.Option.{option_map, option_map_or, option_and_then, is_none}
 use Rattle.std.specs.declared.option.Option.{Option}
-use Rattle.op_model.specs.Access.{Looked, has_action, is_client, differ, first_failed, limit_rules}
+use Rattle.op_model.specs.Access.{Looked, PaymentLooked, has_action, is_same_client, differ, first_failure, limit_failures}
 use Rattle.op_model.specs.Grants.{item_of}
 use Rattle.op_model.specs.declared.act.Entry.{Entry}
 use Rattle.op_model.specs.declared.grant.Item.{Item}
 use Rattle.op_model.specs.declared.row.GrantRow.{GrantRow}
-use Rattle.op_model.specs.declared.row.QuoteRow.{QuoteRow}
 use Rattle.op_access.specs.declared.rules.AccessFacts.{AccessFacts}
 use Rattle.op_access.specs.declared.rules.Decision.{Decision}
 use Rattle.op_access.specs.declared.rules.Decision.TheVariants.{Pass, Denied}
@@ -47,21 +46,21 @@ decision (Some rule) = Denied rule
 
 -- denied by the first rule that fails
 abbrev pub decision_of : AccessFacts → Decision
-decision_of facts = decision (first_failed (fact_rules facts))
+decision_of facts = decision (first_failure (fact_rules facts))
 
 -- ---- facts of a history
 
--- the number of the first of the rules 6 to 9 that a payment from this quote breaks
-abbrev pub limit_broken : List Entry → ℕ → ℕ → List Item → QuoteRow → Option ℕ
-limit_broken history t g items quote = option_map (λ n. n + 5) (first_failed (limit_rules history t g items quote))
+-- the number of the first of the rules 6 to 9 that this payment breaks
+abbrev pub limit_broken : List Entry → ℕ → ℕ → List Item → PaymentLooked → Option ℕ
+limit_broken history t g items payment = option_map (λ n. n + 5) (first_failure (limit_failures history t g items payment))
 
 -- the facts are those of a client's access under grant g, at t
 pub record AreFactsOf (facts : AccessFacts) (history : List Entry) (t : ℕ) (client : Option (List ℕ)) (g : ℕ) (grant : GrantRow) (looked : Looked) : Type 0 where
-  pub same_client : facts.same_client ≡ is_client client grant.client
+  pub same_client : facts.same_client ≡ is_same_client client grant.client
   pub actions : facts.actions ≡ option_map (λ item. item.actions) (item_of looked.kind grant.items)
   pub need : facts.need ≡ looked.need
   pub all : facts.all ≡ looked.all
   pub identifier : facts.identifier ≡ option_and_then (λ item. item.identifier) (item_of looked.kind grant.items)
   pub address : facts.address ≡ looked.address
-  pub own : facts.own ≡ option_map (is_client client) looked.owner
-  pub spend : option_map rule_of facts.spend ≡ option_and_then (limit_broken history t g grant.items) looked.quote
+  pub own : facts.own ≡ option_map (is_same_client client) looked.owner
+  pub spend : option_map rule_of facts.spend ≡ option_and_then (limit_broken history t g grant.items) looked.payment

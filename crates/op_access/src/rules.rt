@@ -1,7 +1,7 @@
 //! The nine rules of access.
 ghost use Rattle.std.specs.Prelude.{◌≡◌, ℕ, List};
 ghost use Rattle.std.specs.declared.option.Option.{Option};
-ghost use Rattle.op_model.specs.Access.{Looked, rules, first_failed, has_action, differ};
+ghost use Rattle.op_model.specs.Access.{Looked, failures, first_failure, has_action, differ};
 ghost use Rattle.op_model.specs.declared.act.Entry.{Entry};
 ghost use Rattle.op_model.specs.declared.row.GrantRow.{GrantRow};
 ghost use Rattle.op_access.specs.Rules.{AreFactsOf, decision, decision_of, rule_of};
@@ -55,7 +55,7 @@ pub enum Decision {
 pub fn allowed(facts: &AccessFacts) -> Decision
     ensures decision { result ≡ decision_of facts.now }
     ensures by_history { (history : List Entry) (t : ℕ) (client : Option (List ℕ)) (g : ℕ) (grant : GrantRow) (looked : Looked)
-        → AreFactsOf facts.now history t client g grant looked → result ≡ decision (first_failed (rules history t client g grant looked)) }
+        → AreFactsOf facts.now history t client g grant looked → result ≡ decision (first_failure (failures history t client g grant looked)) }
 {
     if !facts.same_client {
         return Decision::Denied(1);

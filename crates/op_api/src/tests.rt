@@ -5,7 +5,7 @@ ghost use Rattle.std.specs.Prelude.{true, ◌&&◌};
 ghost use Rattle.std.specs.Str.{bytes_eq};
 
 use crate::{ApiFault, prepare};
-use op_http::{Field, RawRequest};
+use op_http::{Field, RawRequest, RouteTable};
 use op_model::{Refusal, Verdict};
 use op_ports::Verifier;
 use std::alloc::{AllocError, Global};
@@ -115,7 +115,8 @@ fn asker<V: Verifier>(
     verifier: &V,
 ) -> Result<Verdict, Fail> {
     let raw = request(alloc, b"POST", b"/admin/assets", BODY, fields)?;
-    match prepare(alloc, &raw, verifier) {
+    let table = RouteTable::new(alloc)?;
+    match prepare(alloc, &table, &raw, verifier) {
         Ok((_, verdict)) => Ok(verdict),
         Err(_) => Err("refused")?,
     }
@@ -270,7 +271,8 @@ fn expect_refused(
     };
     let fields: [(&[u8], &[u8]); 2] = [(b"wallet-client", SHOP), (b"wallet-signature", b"p")];
     let raw = request(alloc, method, target, body, &fields)?;
-    match prepare(alloc, &raw, &asked) {
+    let table = RouteTable::new(alloc)?;
+    match prepare(alloc, &table, &raw, &asked) {
         Err(ApiFault::Refused(refusal)) => {
             assert!(rt; !asked.asked.get());
             Ok(refusal)

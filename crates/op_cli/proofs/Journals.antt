@@ -10,13 +10,13 @@ use Rattle.op_causes.specs.Causes.{Rose}
 use Rattle.op_desk.specs.Batches.{DeskValue, IsWhole}
 use Rattle.op_desk.specs.Spelling.{SpellsRounds, SpellsEither, Stands, LacksRoom, history_of, with_round}
 use Rattle.op_desk.specs.Wallets.{WalletValue, IsSound}
-use Rattle.op_disk.specs.Calls.{LeavesOnly}
-use Rattle.op_session.specs.Session.{Final, settled, tried_after, unfit_after}
-use Rattle.op_session.specs.Stood.{Stood, opened_with, entries_of, now, with_rounds, round_of, with_entries}
-use Rattle.op_model.specs.declared.act.Entry.{Entry}
-use Rattle.op_cli.specs.Kept.{AllSpell, FromEach, SpellsAtLeast, SpellsEnd, GoesOn, Lasts, IsUnfit, Leaves, Endures, Kept, IsReady, history_at}
 use Rattle.op_desk.proofs.Closing.{image_spells}
 use Rattle.op_desk.proofs.Unique.{one_spelling}
+use Rattle.op_disk.specs.Calls.{LeavesOnly}
+use Rattle.op_model.specs.declared.act.Entry.{Entry}
+use Rattle.op_session.specs.Session.{Final, settled, tried_after, unfit_after}
+use Rattle.op_session.specs.Stood.{Stood, opened_with, entries_of, now, with_rounds, round_of, with_entries}
+use Rattle.op_cli.specs.Kept.{AllSpell, FromEach, SpellsAtLeast, SpellsFinal, GoesOn, Lasts, IsUnfit, Leaves, Endures, Kept, IsReady, history_at}
 
 -- ---- what stands, and more rounds
 
@@ -265,7 +265,7 @@ module _ {D : Type 0} (moment : D → ℕ) (since : D → ℕ → List ℕ → T
       }
 
 -- where no commit failed, each image has what stands
-settled_end : (found : List (List Entry)) (s : Stood) (c : List ℕ) → SpellsEnd found (settled s) c → SpellsRounds (found ++ s.rounds) c
+settled_end : (found : List (List Entry)) (s : Stood) (c : List ℕ) → SpellsFinal found (settled s) c → SpellsRounds (found ++ s.rounds) c
 settled_end found s c (inl spelled) = spelled
 settled_end found s c (inr spelled) = spelled
 

@@ -5,11 +5,11 @@ use Rattle.std.proofs.lemmas.List.Concat.{flat_map-append}
 use Rattle.op_desk.specs.Spelling.{Spells, SpellsRounds, history_of, records, opening_calls}
 use Rattle.op_journal.specs.Frames as frames
 use Rattle.op_journal.specs.Recovered.{IsOldOrShort}
+use Rattle.op_model.specs.declared.act.Entry.{Entry}
 use Rattle.op_session.specs.Session.{Final}
 use Rattle.op_session.specs.Stood.{Stood, entries_of, now, with_rounds}
-use Rattle.op_model.specs.declared.act.Entry.{Entry}
 use Rattle.op_cli.specs.Applies.{EveryMoment}
-use Rattle.op_cli.specs.Kept.{AllSpell, SpellsEnd, Endures}
+use Rattle.op_cli.specs.Kept.{AllSpell, SpellsFinal, Endures}
 use Rattle.op_cli.proofs.Journals.{spells_all, spells_longer}
 
 map_none : {X Y : Type 0} (f : X → Y) (xs : List X) → map f xs ≡ [] → xs ≡ []
@@ -58,7 +58,7 @@ end_history : (rounds : List (List Entry)) (s : Stood) → history_of rounds ≡
 end_history rounds s is = flat_map-append (λ (round : List Entry). round) rounds s.rounds ∙ ap (λ (h : List Entry). h ++ entries_of s.rounds) is
 
 -- a crash at the end leaves what stands, or that with the round that was tried
-pub end_spells : (rounds : List (List Entry)) (final : Final) (c : List ℕ) → history_of rounds ≡ final.stands.found → (rest : List (List Entry)) × (final.tried ≡ with_rounds final.stands rest) → SpellsEnd rounds final c
+pub end_spells : (rounds : List (List Entry)) (final : Final) (c : List ℕ) → history_of rounds ≡ final.stands.found → (rest : List (List Entry)) × (final.tried ≡ with_rounds final.stands rest) → SpellsFinal rounds final c
     → Spells (now final.stands) c ⊎ Spells (now final.tried) c
 end_spells rounds final c is tried (inl stands) = inl (rounds ++ final.stands.rounds, stands, end_history rounds final.stands is)
 end_spells rounds final c is tried (inr more) = inr (rounds ++ final.tried.rounds, more, end_history rounds final.tried (is ∙ sym (ap (λ (s : Stood). s.found) tried.1)))

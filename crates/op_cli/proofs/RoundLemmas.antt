@@ -8,12 +8,8 @@ use Rattle.op_desk.specs.Wallets.{Handles}
 use Rattle.op_ports.specs.Sink.{AppendsFront}
 use Rattle.op_model.specs.History.{moment_of_turn}
 use Rattle.op_model.specs.Printed.{printed}
-use Rattle.op_session.specs.Session.{Final, settled, tried_after, unfit_after}
-use Rattle.op_session.specs.Stood.{Stood, now, with_entries}
 use Rattle.op_model.specs.Round.{FeesAllowed, refusal_reply}
 use Rattle.op_model.specs.declared.act.Entry.{Entry}
-use Rattle.op_session.specs.declared.end.End.{End}
-use Rattle.op_session.specs.declared.end.End.TheVariants as ends
 use Rattle.op_model.specs.declared.reply.Reply.{Reply}
 use Rattle.op_model.specs.declared.reply.Refusal.{Refusal}
 use Rattle.op_model.specs.declared.reply.Refusal.TheVariants.{Memory, DiskFault, JournalFull}
@@ -21,6 +17,10 @@ use Rattle.op_model.specs.declared.request.Request.{Request}
 use Rattle.op_model.specs.declared.request.Task.{Task}
 use Rattle.op_model.specs.declared.request.Task.TheVariants.{Ask}
 use Rattle.op_model.specs.declared.request.Verdict.{Verdict}
+use Rattle.op_session.specs.Session.{Final, settled, tried_after, unfit_after}
+use Rattle.op_session.specs.Stood.{Stood, now, with_entries}
+use Rattle.op_session.specs.declared.end.End.{End}
+use Rattle.op_session.specs.declared.end.End.TheVariants as ends
 use Rattle.op_cli.specs.Turns.{Answers, NotHandled, NotStood, NotWritten, NotTold}
 use Rattle.op_cli.proofs.Journals.{no_more}
 

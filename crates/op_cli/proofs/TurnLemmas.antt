@@ -9,21 +9,21 @@ use Rattle.op_http.specs.declared.reader.HttpFault.TheVariants as http
 use Rattle.op_ports.specs.Clock.{AsksKnown}
 use Rattle.op_ports.specs.Sink.{AppendsFront}
 use Rattle.op_ports.specs.Words.{DrawsKnown}
-use Rattle.op_model.specs.Meant.{meant_so_far}
+use Rattle.op_session.specs.Built.{meant_so_far}
 use Rattle.op_model.specs.Printed.{printed}
 use Rattle.op_model.specs.Requests.{Raw, BeginsWithNoRequest}
 use Rattle.op_model.specs.Round.{FeesAllowed, refusal_reply}
-use Rattle.op_session.specs.Session.{Final, Ends, Cause, AnswersOne, LosesRound, IsRefusal, settled}
-use Rattle.op_session.specs.Stood.{Stood, now, with_entries}
-use Rattle.op_session.specs.Turn.{Turn, Begins, IsTurn, turn_limit}
 use Rattle.op_model.specs.Verdicts.{verdict_of}
-use Rattle.op_session.specs.World.{World}
 use Rattle.op_model.specs.declared.act.Entry.{Entry}
-use Rattle.op_session.specs.declared.end.End.{End}
-use Rattle.op_session.specs.declared.end.End.TheVariants as ends
 use Rattle.op_model.specs.declared.reply.Reply.{Reply}
 use Rattle.op_model.specs.declared.reply.Refusal.{Refusal}
 use Rattle.op_model.specs.declared.reply.Refusal.TheVariants as refusals
+use Rattle.op_session.specs.Session.{Final, Ends, Cause, AnswersOne, LosesRound, IsRefusal, settled}
+use Rattle.op_session.specs.Stood.{Stood, now, with_entries}
+use Rattle.op_session.specs.Turn.{Turn, Begins, IsTurn, turn_limit}
+use Rattle.op_session.specs.World.{World}
+use Rattle.op_session.specs.declared.end.End.{End}
+use Rattle.op_session.specs.declared.end.End.TheVariants as ends
 use Rattle.op_cli.specs.Turns.{here, Turns, Stops, turn_of, Answers, Replies, ReplyFails, RefusalEnds, Unread}
 
 pub asks_none : (told : Option (List ℕ)) → AsksKnown told told []

@@ -4,17 +4,17 @@ use Rattle.std.proofs.lemmas.List.{append-nil}
 use Rattle.std.specs.declared.option.Option.{Option}
 use Rattle.std.specs.Io.KnownBytes.{Consumes, Appends, Keeps}
 use Rattle.op_model.specs.Printed.{printed}
-use Rattle.op_session.specs.Program.{code_of}
 use Rattle.op_model.specs.Requests.{IsEnded}
 use Rattle.op_model.specs.Round.{FeesAllowed, refusal_reply}
+use Rattle.op_model.specs.declared.act.Entry.{Entry}
+use Rattle.op_model.specs.declared.reply.Refusal.{Refusal}
+use Rattle.op_session.specs.Program.{code_of}
 use Rattle.op_session.specs.Session.{Final, Session, begun, texts, replies, IsComplete, IsRefusal}
 use Rattle.op_session.specs.Stood.{Stood, now}
 use Rattle.op_session.specs.Turn.{Standing, Turn, Run}
 use Rattle.op_session.specs.World.{World}
-use Rattle.op_model.specs.declared.act.Entry.{Entry}
 use Rattle.op_session.specs.declared.end.End.{End}
 use Rattle.op_session.specs.declared.end.End.TheVariants as ends
-use Rattle.op_model.specs.declared.reply.Refusal.{Refusal}
 
 -- ---- steps of a stream that is told
 

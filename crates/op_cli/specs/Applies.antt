@@ -8,11 +8,11 @@ use Rattle.op_desk.specs.declared.fault.DeskFault.TheVariants as faults
 use Rattle.op_disk.specs.Calls.{LeavesOnly}
 use Rattle.op_journal.specs.Recovered.{IsOldOrShort}
 use Rattle.op_model.specs.Round.{FeesAllowed}
+use Rattle.op_model.specs.declared.act.Entry.{Entry}
 use Rattle.op_session.specs.Program.{code_of, illegal_code}
 use Rattle.op_session.specs.Session.{Final, Session, begun, IsCompleteKnown}
 use Rattle.op_session.specs.Stood.{now, with_rounds}
 use Rattle.op_session.specs.World.{World}
-use Rattle.op_model.specs.declared.act.Entry.{Entry}
 use Rattle.op_session.specs.declared.end.End.{End}
 use Rattle.op_session.specs.declared.end.End.TheVariants.{DiskFault, OutOfMemory}
 use Rattle.op_cli.specs.Kept.{SpellsAtLeast, IsUnfit}

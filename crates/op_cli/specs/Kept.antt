@@ -6,9 +6,9 @@ use Rattle.op_desk.specs.Batches.{DeskValue}
 use Rattle.op_desk.specs.Spelling.{SpellsRounds, Stands, LacksRoom, history_of}
 use Rattle.op_desk.specs.Wallets.{IsSound}
 use Rattle.op_disk.specs.Calls.{LeavesOnly}
+use Rattle.op_model.specs.declared.act.Entry.{Entry}
 use Rattle.op_session.specs.Session.{Final}
 use Rattle.op_session.specs.Stood.{Stood, now, with_rounds}
-use Rattle.op_model.specs.declared.act.Entry.{Entry}
 
 -- the history of a whole desk
 abbrev pub history_at : DeskValue → List Entry
@@ -32,8 +32,8 @@ abbrev pub SpellsAtLeast : ℕ → (found new : List (List Entry)) → List ℕ 
 SpellsAtLeast least found new c = (n : ℕ) × (least ≤ n) × (n ≤ length new) × SpellsRounds (found ++ take n new) c
 
 -- the rounds that were found, and behind them those that stand, or those that were tried
-abbrev pub SpellsEnd : (found : List (List Entry)) → Final → List ℕ → Type 0
-SpellsEnd found final c = SpellsRounds (found ++ final.stands.rounds) c ⊎ SpellsRounds (found ++ final.tried.rounds) c
+abbrev pub SpellsFinal : (found : List (List Entry)) → Final → List ℕ → Type 0
+SpellsFinal found final c = SpellsRounds (found ++ final.stands.rounds) c ⊎ SpellsRounds (found ++ final.tried.rounds) c
 
 -- What stands goes on by at most one round, which stands or was tried.
 pub record GoesOn (before : Stood) (final : Final) : Type 0 where
@@ -47,7 +47,7 @@ pub record GoesOn (before : Stood) (final : Final) : Type 0 where
 -- round. A round that stands has made four calls, and one that was tried at most as many.
 pub record Lasts {D : Type 0} (moment : D → ℕ) (since : D → ℕ → List ℕ → Type 0) (images : D → List ℕ → Type 0) (found : List (List Entry)) (before : Stood) (final : Final) (old new : D) : Type 0 where
   pub leaves : LeavesOnly moment since old new (λ c. SpellsRounds (found ++ before.rounds) c ⊎ SpellsRounds (found ++ final.tried.rounds) c)
-  pub at_end : (c : List ℕ) → images new c → SpellsEnd found final c
+  pub at_end : (c : List ℕ) → images new c → SpellsFinal found final c
   pub least : moment old + 4 * (length final.stands.rounds - length before.rounds) ≤ moment new
   pub most : moment new ≤ moment old + 4 * (length final.tried.rounds - length before.rounds)
 
@@ -69,7 +69,7 @@ pub record Endures {D : Type 0} (moment : D → ℕ) (since : D → ℕ → List
   pub each : (k : ℕ) (c : List ℕ) → k ≤ length final.stands.rounds → since last (moment opened + 4 * k) c → SpellsAtLeast k found final.tried.rounds c
   -- for a run that began earlier
   pub before : (t : ℕ) (c : List ℕ) → t ≤ moment opened → since last t c → since opened t c ⊎ SpellsAtLeast 0 found final.tried.rounds c
-  pub at_end : (c : List ℕ) → images last c → SpellsEnd found final c
+  pub at_end : (c : List ℕ) → images last c → SpellsFinal found final c
   pub least : moment opened + 4 * length final.stands.rounds ≤ moment last
   pub most : moment last ≤ moment opened + 4 * length final.tried.rounds
 

@@ -2,8 +2,8 @@
 ghost use Rattle.std.specs.Prelude.{◌≡◌, ◌≢◌, ◌↔◌, ◌⊎◌, List, false, map, string_bytes, IsTrue};
 ghost use Rattle.op_causes.specs.Causes.{Rose};
 ghost use Rattle.op_desk.specs.Spelling.{SpellsSound};
-ghost use Rattle.op_session.specs.Program.{code_of, is_command};
 ghost use Rattle.op_model.specs.declared.act.Entry.{Entry};
+ghost use Rattle.op_session.specs.Program.{code_of, is_command};
 ghost use Rattle.op_cli.specs.Applies.{DoesNotOpen, RunsOn, code_of_fault};
 ghost use Rattle.op_cli.specs.Told.{world_of};
 

@@ -6,7 +6,7 @@ pub mod IntervalTexts
 pub mod LimitFacts
 pub mod Numbered
 pub mod SecretLaw
-pub mod Spending
+pub mod MaySpend
 pub mod SpendingLaw
 pub mod TokenLaw
 pub mod TokenLists

@@ -19,7 +19,7 @@ use Rattle.op_grant.specs.declared.fault.Proceeded.TheVariants as answers
 use Rattle.op_grant.specs.Runs.{Call, CanCall, AreCalls, after_call, after_calls, spent_by, given_back_by, IsSpentSum, SpendingIsSum}
 use Rattle.op_grant.specs.Runs.Call.{Requested, Decided, Continued, Cancelled, Rotated, Revoked, Spent, GivenBack}
 use Rattle.op_grant.proofs.Counters.{Key, Counters, tested_key, own_key, lookup-insert_entry, lookup-set_value, lookup-set_other}
-use Rattle.op_grant.proofs.Spending.{set_value_none}
+use Rattle.op_grant.proofs.MaySpend.{set_value_none}
 use Rattle.op_grant.proofs.Numbered.{nth-with_item, nth-append}
 
 -- ---- what no call changes

@@ -12,7 +12,8 @@ use Rattle.op_model.specs.declared.grant.Item.{Item}
 use Rattle.op_model.specs.declared.grant.Limits.{Limits}
 use Rattle.op_model.specs.declared.row.GrantRow.{GrantRow}
 use Rattle.op_grant.specs.Value.{GrantsValue, no_grants, with_grant, with_row, spent_in, spent_more, spent_less}
-use Rattle.op_grant.specs.Limits.{may_spend_answer}
+use Rattle.op_grant.specs.Limits.{may_pay_answer, may_spend_answer}
+use Rattle.op_grant.specs.declared.limits.Spending.{Spending}
 use Rattle.op_grant.specs.Rows.{asked_row, decide_answer, decided, proceed_answer, proceeded_row, rotated, revoked, cancelled, grant_of_live}
 use Rattle.op_grant.specs.declared.fault.GrantFault.TheVariants as faults
 use Rattle.op_grant.specs.declared.fault.Proceeded.TheVariants as answers
@@ -153,6 +154,22 @@ receive_cap : may_spend_answer (limited (record { debit = false; sum = sum 100 }
 receive_cap = refl
 
 -- another receiver is told before another asset, and that before the cap
+-- what is not there passes the cap: a price that a payment has not, and an address that does not pay
+abbrev pub nothing_received : Spending
+nothing_received = record { receiver = 7; debit = Some (sum 1000); receive_asset = 1; receive = None }
+
+no_price : may_pay_answer (limited (record { debit = false; sum = sum 100 })) 1 start nothing_received (row_of (record { debit = false; sum = sum 100 })) ≡ Ok 0
+no_price = refl
+
+asset_without_price : may_pay_answer (limited (record { debit = false; sum = sum 100 })) 1 start (record nothing_received { receive_asset = 2 }) (row_of (record { debit = false; sum = sum 100 })) ≡ Err faults.LimitAsset
+asset_without_price = refl
+
+nobody_pays : may_pay_answer debit_cap 1 start (record nothing_received { debit = None }) debit_row ≡ Ok 0
+nobody_pays = refl
+
+somebody_pays : may_pay_answer debit_cap 1 start nothing_received debit_row ≡ Err (faults.OverLimit 0)
+somebody_pays = refl
+
 receiver_first : may_spend_answer debit_cap 1 start 8 (record { asset = 2; value = 101 }) (sum 1) debit_row ≡ Err faults.LimitReceiver
 receiver_first = refl
 

@@ -4,14 +4,15 @@ ghost use Rattle.std.specs.Prelude.{◌≡◌, ◌≢◌, ◌≤◌, [], length,
 ghost use Rattle.std.specs.Option.{option_copied};
 ghost use Rattle.op_model.specs.History.{nth};
 ghost use Rattle.op_grant.specs.Value.{no_grants, has_row, with_grant, with_row, spent_in, spent_more, spent_less};
-ghost use Rattle.op_grant.specs.Limits.{may_spend_answer, covers_spending, are_readable};
+ghost use Rattle.op_grant.specs.Limits.{may_pay_answer, may_spend_answer, covers_spending, are_readable};
 ghost use Rattle.op_grant.specs.Places.{IsNewPlace};
 ghost use Rattle.op_grant.specs.Rows.{at_row, asked_row, ask_fault, decide_answer, decided, proceed_answer, proceeded_row, cancel_answer, cancelled, token_answer, rotated, revoked, grant_of_live};
 ghost use Rattle.op_grant.specs.declared.fault.GrantFault.TheVariants as faults;
 
 use crate::fault::{GrantFault, Proceeded};
+use crate::limits::{self, Spending};
+use crate::rows;
 use crate::tokens::{Token, Tokens, place_of};
-use crate::{limits, rows};
 use op_model::{Asked, GrantRow, GrantState, Sum};
 use op_names::SecretText;
 use op_time::Moment;
@@ -231,8 +232,32 @@ impl Grants {
         self.counters.get(&(n, j)).copied().unwrap_or(0)
     }
 
-    /// The interval in which a payment to a receiver may spend at a moment under grant `n`. Looked at in this order:
-    /// `LimitReceiver`, `LimitAsset`, `OutsideInterval`, `OverLimit`.
+    /// The interval in which a payment may spend at a moment under grant `n`. Looked at in this order: `LimitReceiver`,
+    /// `LimitAsset`, `OutsideInterval`, `OverLimit`. A cap that has nothing to look at lets the payment pass.
+    pub fn may_pay(&self, n: u64, t: Moment, asked: Spending) -> Result<u64, GrantFault>
+        requires { IsTrue (has_row self.now n) }
+        ensures { result ≡ at_row (may_pay_answer self.now n t asked) self.now n }
+    {
+        let row = &self.rows[n as usize - 1];
+        let items = row.items.as_slice();
+        if limits::is_other_receiver(items, asked.receiver) {
+            return Err(GrantFault::LimitReceiver);
+        }
+        let cap = limits::cap_of(items);
+        if limits::is_other_asset(cap, &asked) {
+            return Err(GrantFault::LimitAsset);
+        }
+        let Some(j) = limits::interval_at(items, t) else {
+            return Err(GrantFault::OutsideInterval);
+        };
+        let spent = self.spent(n, j);
+        if limits::is_over(cap, spent, &asked) {
+            return Err(GrantFault::OverLimit { spent });
+        }
+        Ok(j)
+    }
+
+    /// The same for a payment of which all is there.
     pub fn may_spend(
         &self,
         n: u64,
@@ -244,23 +269,13 @@ impl Grants {
         requires { IsTrue (has_row self.now n) }
         ensures { result ≡ at_row (may_spend_answer self.now n t receiver debit receive) self.now n }
     {
-        let row = &self.rows[n as usize - 1];
-        let items = row.items.as_slice();
-        if limits::is_other_receiver(items, receiver) {
-            return Err(GrantFault::LimitReceiver);
-        }
-        let cap = limits::cap_of(items);
-        if limits::is_other_asset(cap, debit, receive) {
-            return Err(GrantFault::LimitAsset);
-        }
-        let Some(j) = limits::interval_at(items, t) else {
-            return Err(GrantFault::OutsideInterval);
+        let asked = Spending {
+            receiver,
+            debit: Some(debit),
+            receive_asset: receive.asset,
+            receive: Some(receive.value),
         };
-        let spent = self.spent(n, j);
-        if limits::passes_cap(cap, spent, debit, receive) {
-            return Err(GrantFault::OverLimit { spent });
-        }
-        Ok(j)
+        self.may_pay(n, t, asked)
     }
 
     /// Counts a value as spent under grant `n` in interval `j`. Without a cap nothing is counted.

@@ -16,6 +16,7 @@ pub use laws::{
     ended_tokens_are_gone, live_tokens_are_found, one_live_token, secrets_are_apart,
     spending_is_sum,
 };
+pub use limits::Spending;
 pub use op_model::{
     Asked, Cap, Finish, GrantRow, GrantState, Interact, IntervalText, Item, Limits, Rows, Sum,
 };

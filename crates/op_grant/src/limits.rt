@@ -3,7 +3,7 @@
 ghost use Rattle.std.specs.Prelude.{◌≡◌, false, IsTrue};
 ghost use Rattle.std.specs.Option.{option_copied, option_map_or};
 ghost use Rattle.op_model.specs.Grants.{limits_of, cap_of, repeats, interval_at, inside};
-ghost use Rattle.op_grant.specs.Limits.{counted, is_other_receiver, is_other_asset, passes_cap, are_readable, is_readable};
+ghost use Rattle.op_grant.specs.Limits.{counted_asset, counted_value, is_other_receiver, is_other_asset, passes_cap, is_over, are_readable, is_readable};
 ghost use Rattle.op_time.specs.Texts.{interval_of};
 
 use crate::rows::OUTGOING;
@@ -41,29 +41,61 @@ pub(crate) fn is_other_receiver(items: &[Item], receiver: u64) -> bool
     }
 }
 
-// What a cap counts: what is debited, or what is received.
-fn counted(cap: &Cap, debit: Sum, receive: Sum) -> Sum
-    ensures { result ≡ counted debit receive cap.now }
+/// What a payment would spend, as the limits of a grant look at it.
+#[derive(Clone, Copy)]
+pub struct Spending {
+    /// The number of the incoming payment.
+    pub receiver: u64,
+    /// What is debited. `None` where no address pays.
+    pub debit: Option<Sum>,
+    /// The number of the asset in which the payment is received.
+    pub receive_asset: u32,
+    /// What is received. `None` where the payment has no price.
+    pub receive: Option<u64>,
+}
+
+// The asset that a cap looks at, where it is there.
+fn counted_asset(asked: &Spending, cap: &Cap) -> Option<u32>
+    ensures { result ≡ counted_asset asked.now cap.now }
 {
-    if cap.debit { debit } else { receive }
+    if !cap.debit {
+        return Some(asked.receive_asset);
+    }
+    Some(asked.debit?.asset)
+}
+
+// The value that a cap counts, where it is there.
+fn counted_value(asked: &Spending, cap: &Cap) -> Option<u64>
+    ensures { result ≡ counted_value asked.now cap.now }
+{
+    if !cap.debit {
+        return asked.receive;
+    }
+    Some(asked.debit?.value)
 }
 
 /// Whether there is a cap, in another asset than what it counts.
-pub(crate) fn is_other_asset(cap: Option<Cap>, debit: Sum, receive: Sum) -> bool
-    ensures { result ≡ option_map_or (is_other_asset debit receive) cap false }
+pub(crate) fn is_other_asset(cap: Option<Cap>, asked: &Spending) -> bool
+    ensures { result ≡ option_map_or (is_other_asset asked.now) cap false }
 {
     match cap {
-        Some(cap) => cap.sum.asset != counted(&cap, debit, receive).asset,
+        Some(cap) => match counted_asset(asked, &cap) {
+            Some(asset) => cap.sum.asset != asset,
+            None => false,
+        },
         None => false,
     }
 }
 
 /// Whether there is a cap, and what it counts would pass it, where so much was spent before.
-pub(crate) fn passes_cap(cap: Option<Cap>, spent: u64, debit: Sum, receive: Sum) -> bool
-    ensures { result ≡ option_map_or (λ cap. passes_cap spent (counted debit receive cap).value cap) cap false }
+pub(crate) fn is_over(cap: Option<Cap>, spent: u64, asked: &Spending) -> bool
+    ensures { result ≡ option_map_or (is_over spent asked.now) cap false }
 {
     match cap {
-        Some(cap) => is_passed(&cap, spent, counted(&cap, debit, receive).value),
+        Some(cap) => match counted_value(asked, &cap) {
+            Some(value) => is_passed(&cap, spent, value),
+            None => false,
+        },
         None => false,
     }
 }

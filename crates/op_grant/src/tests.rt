@@ -4,7 +4,7 @@ mod conditions;
 
 use crate::{
     Asked, Cap, Finish, GrantFault, Grants, Interact, IntervalText, Item, Limits, Proceeded, Rows,
-    Sum,
+    Spending, Sum,
 };
 use conditions::{are_readable, covers, is_new_place, is_there};
 use op_model::{NonceText, UriText};
@@ -352,6 +352,50 @@ fn unspend(rt: &impl Abort, grants: &mut Grants, value: u64) {
 fn spent(rt: &impl Abort, grants: &Grants, j: u64) -> u64 {
     assert!(rt; is_there(grants, 1));
     grants.spent(1, j)
+}
+
+fn may_pay(rt: &impl Abort, grants: &Grants, asked: Spending) -> Result<u64, GrantFault> {
+    assert!(rt; is_there(grants, 1));
+    grants.may_pay(1, after(0), asked)
+}
+
+#[test]
+fn a_cap_looks_at_what_is_there(rt: HostRuntime) -> Result<(), Fail> {
+    let asked = Spending {
+        receiver: 7,
+        debit: Some(sum(1000)),
+        receive_asset: 1,
+        receive: None,
+    };
+    let received = capped(&rt, rt.alloc(), cap(false, 100), None)?;
+    assert_eq!(rt; may_pay(&rt, &received, asked), Ok(0));
+    let priced = Spending {
+        receive: Some(101),
+        ..asked
+    };
+    assert_eq!(rt;
+        may_pay(&rt, &received, priced),
+        Err(GrantFault::OverLimit { spent: 0 })
+    );
+    let elsewhere = Spending {
+        receive_asset: 2,
+        ..asked
+    };
+    assert_eq!(rt;
+        may_pay(&rt, &received, elsewhere),
+        Err(GrantFault::LimitAsset)
+    );
+    let debited = capped(&rt, rt.alloc(), cap(true, 100), None)?;
+    assert_eq!(rt;
+        may_pay(&rt, &debited, asked),
+        Err(GrantFault::OverLimit { spent: 0 })
+    );
+    let by_nobody = Spending {
+        debit: None,
+        ..asked
+    };
+    assert_eq!(rt; may_pay(&rt, &debited, by_nobody), Ok(0));
+    Ok(())
 }
 
 #[test]

@@ -8,6 +8,7 @@ ghost use Rattle.op_http.specs.Routes.{IsMissed, Routed};
 
 use crate::request::RawRequest;
 use crate::route::{RouteFault, fill, path_of};
+use http::Method;
 use matchit::Router;
 use op_model::{Route, Text};
 use op_names::{NameFault, read_path};
@@ -174,13 +175,13 @@ impl RouteTable {
     fn row_route(&self, method: &[u8], path: &str) -> Option<Route<usize>>
         ensures { option_map (λ route. filled route (λ number. segment number path.now)) result ≡ route_in rows method.now path.now }
     {
-        if method == b"DELETE".as_slice() {
+        if method == Method::DELETE.as_str().as_bytes() {
             return look_up(&self.delete, path);
         }
-        if method == b"GET".as_slice() {
+        if method == Method::GET.as_str().as_bytes() {
             return look_up(&self.get, path);
         }
-        if method == b"POST".as_slice() {
+        if method == Method::POST.as_str().as_bytes() {
             return look_up(&self.post, path);
         }
         None
@@ -204,7 +205,7 @@ impl RouteTable {
             return Ok(fill(alloc, route, path.as_bytes())?);
         }
         let is_address = is_address(alloc, path)?;
-        if is_address && method == b"GET".as_slice() {
+        if is_address && method == Method::GET.as_str().as_bytes() {
             return Ok(Route::ReadAddress {
                 path: Text::new(Vec::from_slice(alloc, path.as_bytes())?),
             });

@@ -20,7 +20,7 @@ there_where xs ys n (Some x) is h = ap is_some (nth-front xs ys n x is)
 pub there_stays : {X : Type 0} (xs ys : List X) (n : ℕ) → is_some (nth xs n) ≡ true → is_some (nth (xs ++ ys) n) ≡ true
 there_stays xs ys n h = there_where xs ys n (nth xs n) refl h
 
-some_mapped : {X Y : Type 0} (f : X → Y) (o : Option X) → is_some (option_map f o) ≡ is_some o
+pub some_mapped : {X Y : Type 0} (f : X → Y) (o : Option X) → is_some (option_map f o) ≡ is_some o
 some_mapped f None = refl
 some_mapped f (Some x) = refl
 

@@ -107,7 +107,7 @@ step_spells history t word fee p k act proper is =
 
 -- ---- expiries and attempts
 
-noted_act : (history : List Entry) (due : Bool) (made act : Act) → (noted_outcome history due made).act ≡ Some act → made ≡ act
+pub noted_act : (history : List Entry) (due : Bool) (made act : Act) → (noted_outcome history due made).act ≡ Some act → made ≡ act
 noted_act history true made act is = some_is made act is
 noted_act history false made act is = none_is_not act is
 

@@ -1,4 +1,5 @@
 pub mod Floors
+pub mod FreshRows
 pub mod Holding
 pub mod Idle
 pub mod Kept

@@ -30,6 +30,7 @@ use Rattle.op_outgoing.specs.Models.{RowsAreDefined}
 use Rattle.op_outgoing.specs.Pieces.{next_sent, next_fee, next_delivered}
 use Rattle.op_outgoing.specs.Runs.{IsAnswered}
 use Rattle.op_outgoing.specs.Steps.{funded_row, with_next_piece, ended_as, stepped_row}
+use Rattle.op_outgoing.proofs.FreshRows.{made_rows, direct_rows}
 use Rattle.op_outgoing.proofs.ModelLemmas.{row_at}
 use Rattle.op_outgoing.proofs.Rows.{with_item-agree}
 
@@ -257,6 +258,8 @@ behind_answer (answers.Waiting shortage) history p k t row act found fit is = ab
 
 pub rows_are_defined : RowsAreDefined
 rows_are_defined = record {
+  made = made_rows;
+  direct = direct_rows;
   stepped = λ history p k t row answer act found answered is. behind_answer answer history p k t row act found (fits row k answer answered) is;
   cancelled = λ history p k t. failed_rows history p k t Cancelled;
 }

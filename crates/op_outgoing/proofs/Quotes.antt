@@ -130,7 +130,7 @@ fresh_step value t q grant metadata row found is = rw is refl
 pub fresh_is : (value : OutgoingsValue) (t q grant : ℕ) (metadata : Option (List ℕ)) (row : QuoteRow) → nth value.quotes q ≡ Some row → with_fresh value t q grant metadata ≡ with_made value (made_from_quote t grant q metadata row)
 fresh_is value t q grant metadata row found = fresh_step value t q grant metadata row (nth value.quotes q) found
 
-zero_floor : (num den : ℕ) → floor_mul 0 num den ≡ 0
+pub zero_floor : (num den : ℕ) → floor_mul 0 num den ≡ 0
 zero_floor num den = let none : 0 * num / den ≤ 0 = div-le_of_le-mul den (omega arith) in omega arith
 
 pub sound_fresh : (made : PaymentMade) → ArePriced made.terms → IsSoundRow (fresh_row made)

@@ -21,8 +21,13 @@ pub struct Made {
 /// The payment before its first step.
 pub fn fresh(made: Made) -> OutgoingRow
     ensures { result ≡ fresh_row (record {
-        grant = made.grant; quote = made.quote; made = made.made; expiry = made.expiry;
-        terms = made.terms; metadata = made.metadata }) }
+      grant = made.grant;
+      quote = made.quote;
+      made = made.made;
+      expiry = made.expiry;
+      terms = made.terms;
+      metadata = made.metadata;
+    }) }
 {
     OutgoingRow {
         grant: made.grant,

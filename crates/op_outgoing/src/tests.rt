@@ -311,6 +311,60 @@ fn due(
 }
 
 #[test]
+fn pays_without_a_quote(rt: HostRuntime) -> Result<(), Fail> {
+    let mut world = make_world(&rt, rt.alloc(), 505, 499, None)?;
+    let price = terms(&rt, SHOP, 499, 6, (1, 1), 250);
+    let payment = world.outgoings.add_direct(moment(17), price, 3, None)?;
+    assert_eq!(rt; payment, 1);
+    let row = world.outgoings.row(payment).expect(&rt, "there");
+    assert!(rt; row.quote.is_none() && row.grant == 3 && row.made.ms() == 17);
+    assert_eq!(rt; row.expiry.ms(), 300_017);
+    expect_answer(
+        &rt,
+        step(&rt, &mut world, payment, 0, 300_016),
+        "funded",
+        0,
+        0,
+    );
+    expect_answer(
+        &rt,
+        step(&rt, &mut world, payment, 1, 300_017),
+        "sent",
+        0,
+        0,
+    );
+    expect_row(&rt, &world, payment, "sending", [2, 250, 3, 250]);
+    expect_answer(
+        &rt,
+        step(&rt, &mut world, payment, 2, 300_018),
+        "completed",
+        0,
+        0,
+    );
+    expect_row(&rt, &world, payment, "completed", [3, 499, 6, 499]);
+    expect_balance(&rt, &world, Account::Wallet(ALICE), 0, 0);
+    Ok(())
+}
+
+#[test]
+fn a_payment_without_a_quote_expires(rt: HostRuntime) -> Result<(), Fail> {
+    let mut world = make_world(&rt, rt.alloc(), 505, 499, None)?;
+    let price = terms(&rt, SHOP, 499, 6, (1, 1), 250);
+    let first = world.outgoings.add_direct(moment(17), price, 3, None)?;
+    let answer = step(&rt, &mut world, first, 0, 300_017);
+    expect_answer(&rt, answer, "quote expired", 0, 0);
+    // A quote is not used up by it, and its lifetime ends at the last moment.
+    let quote = add_quote(&mut world, price)?;
+    let late = world
+        .outgoings
+        .add_direct(moment(253_402_300_799_998), price, 3, None)?;
+    let row = world.outgoings.row(late).expect(&rt, "there");
+    assert_eq!(rt; row.expiry.ms(), 253_402_300_799_999);
+    assert!(rt; pay_quote(&rt, &mut world, quote, 0).is_ok());
+    Ok(())
+}
+
+#[test]
 fn one_piece_passes_the_bound(rt: HostRuntime) -> Result<(), Fail> {
     let mut world = make_world(&rt, rt.alloc(), 69, 102, Some(101))?;
     let payment = pay(&rt, &mut world, terms(&rt, SHOP, 68, 1, (3, 2), 68))?;

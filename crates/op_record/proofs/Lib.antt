@@ -10,6 +10,9 @@ pub mod CutLaws
 pub mod Many
 pub mod RoundSteps
 pub mod RoundLaws
+pub mod Held
+pub mod Pieces
+pub mod PackedSteps
 pub mod Entries
 pub mod Putting
 pub mod LengthLaws

@@ -16,12 +16,12 @@ use Rattle.op_record.specs.declared.RecordFault.{RecordFault}
 use Rattle.op_record.specs.declared.RecordFault.TheVariants as faults
 use Rattle.op_record.specs.Fields.{number}
 use Rattle.op_record.specs.Records.{act_of, record_of}
-use Rattle.op_record.specs.Readers.{Fails, bind, byte, digits_at}
+use Rattle.op_record.specs.Readers.{Fails, BeginsWithout, bind, byte, digits_at}
 use Rattle.op_record.specs.Rows.{moment_at, entry_at, entry_of_round_at}
 use Rattle.op_record.specs.Cuts.{HasRecord, IsUnlessMemory}
 use Rattle.op_record.specs.Laws.{NoActBeginsAnother, BothVersionsSayIt}
 use Rattle.op_record.specs.Rounds.{records, round_of, act_in, IsInRound, IsRoundOfRecords, IsRoundOfOneMoment, IsRound, BeginsRound, IsCutRound, IsBadRoundAt, IsReadOrMemory}
-use Rattle.op_record.specs.RoundReading.{entry_with, text_with, FitsWith, AreRead, StopsAt, IsReadRound, IsLeft, IsOther, Says}
+use Rattle.op_record.specs.RoundReading.{entry_with, text_with, FitsWith, AreRead, StopsAt, IsReadRound, IsLeft, Says}
 use Rattle.op_record.proofs.Parts.{moment-field}
 use Rattle.op_record.proofs.LengthLaws.{length_number}
 use Rattle.op_record.proofs.ActLaws.{entry-field, entry_of_round-field}
@@ -41,7 +41,7 @@ no_record entry rest bytes has e = not_refused entry-field entry rest (2 ∷ byt
 
 -- ---- which version
 
-of_records : (payload : List ℕ) (entries : List Entry) → IsOther payload → IsRound payload entries → IsRoundOfRecords payload entries
+of_records : (payload : List ℕ) (entries : List Entry) → BeginsWithout 2 payload → IsRound payload entries → IsRoundOfRecords payload entries
 of_records payload entries other (inl first) = first
 of_records payload entries other (inr second) = absurd (other _ second.is)
 
@@ -96,15 +96,15 @@ stopped said bytes fault s = record { values = s.entries; rest = s.rest; have = 
 records_begin : (bytes : List ℕ) → Begins record_of HasRecord bytes → BeginsRound bytes
 records_begin bytes b = record { entries = b.values; more = b.more; whole = inl (record { some = b.some; have = b.have; is = b.whole }) }
 
-pub records_short : (payload : List ℕ) → IsOther payload → StopsAt None payload Short → IsCutRound payload
-records_short payload other s =
-    (records_begin payload (short_begins entry-field payload (stopped None payload Short s)),
-    λ entries round. let first = of_records payload entries other round in
-    stops_whole entry-field (none_left None) payload Short (stopped None payload Short s) entries first.some first.have first.is)
+pub records_short : (payload : List ℕ) → BeginsWithout 2 payload → StopsAt None payload Short → IsCutRound payload
+records_short payload other s = (
+  records_begin payload (short_begins entry-field payload (stopped None payload Short s)),
+  λ entries round. let first = of_records payload entries other round in
+      stops_whole entry-field (none_left None) payload Short (stopped None payload Short s) entries first.some first.have first.is,
+)
 
 left_at : (payload : List ℕ) (at left : ℕ) → at + left ≡ length payload → IsBadRoundAt payload at → IsLeft payload left
 left_at payload at left sum bad = record { within = omega (arith, sum); bad = subst (λ (n : ℕ). IsBadRoundAt payload n) (omega (arith, sum)) bad }
-
 
 abbrev head_of : List ℕ → ℕ
 head_of [] = 0
@@ -115,11 +115,11 @@ first_is at b bytes more rest e =
     let step : suc at ≡ at + 1 = omega arith in
     ap head_of (ap (λ (n : ℕ). take n (b ∷ bytes) ++ more) step ∙ e)
 
-stays_other : {X : Type 0} (payload more rest : List ℕ) (at : ℕ) → IsOther payload → at < length payload → take (at + 1) payload ++ more ≡ 2 ∷ rest → X
+stays_other : {X : Type 0} (payload more rest : List ℕ) (at : ℕ) → BeginsWithout 2 payload → at < length payload → take (at + 1) payload ++ more ≡ 2 ∷ rest → X
 stays_other [] more rest at other within e = absurd (omega (arith, within))
 stays_other (b ∷ bytes) more rest at other within e = absurd (other bytes (ap (λ (v : ℕ). v ∷ bytes) (first_is at b bytes more rest e)))
 
-pub records_bad : (payload : List ℕ) (left : ℕ) → IsOther payload → StopsAt None payload (Bad left) → IsLeft payload left
+pub records_bad : (payload : List ℕ) (left : ℕ) → BeginsWithout 2 payload → StopsAt None payload (Bad left) → IsLeft payload left
 records_bad payload left other s =
     let b = bad_stops entry-field (none_left None) payload left (stopped None payload (Bad left) s) in
     let within : b.0 < length payload = omega (arith, b.1.sum, b.1.some) in
@@ -166,7 +166,7 @@ round_short payload rest bytes at two moment s =
     let whole : payload ≡ 2 ∷ (number 8 at ++ bytes) = two ∙ ap (λ (u : List ℕ). 2 ∷ u) t.1 in (
       subst BeginsRound (sym whole) (round_begins at bytes (short_begins field bytes stop)),
       λ entries round. let b = are_behind payload rest bytes at entries t.0 two t.1 round in
-      stops_whole field (none_left (Some at)) bytes Short stop entries b.some b.have b.is,
+          stops_whole field (none_left (Some at)) bytes Short stop entries b.some b.have b.is,
     )
 
 length_front : (at : ℕ) → length (2 ∷ number 8 at) ≡ 9
@@ -213,17 +213,18 @@ moment_begins front e =
         at = x.value;
         have = ((refl, tt, (t.0, lit< tt)), tt);
         is = ap (λ (u : List ℕ). 2 ∷ u) (
-        sym (append_assoc front x.more (act_in entry)) ∙ ap (λ (u : List ℕ). u ++ act_in entry) (t.1 ∙ append-nil (number 8 x.value))
-        ∙ ap (λ (u : List ℕ). number 8 x.value ++ u) (sym (append-nil (act_in entry)))
-        );
+            sym (append_assoc front x.more (act_in entry)) ∙ ap (λ (u : List ℕ). u ++ act_in entry) (t.1 ∙ append-nil (number 8 x.value))
+            ∙ ap (λ (u : List ℕ). number 8 x.value ++ u) (sym (append-nil (act_in entry)))
+            );
       });
     }
 
 pub moment_short : (payload rest : List ℕ) → payload ≡ 2 ∷ rest → moment_at rest ≡ Err Short → IsCutRound payload
-moment_short payload rest two e =
-    (subst BeginsRound (sym two) (moment_begins rest e),
-    λ entries round. let h = behind payload rest entries two round in
-    not_refused moment-field h.at (flat_map act_in entries) rest Short h.low h.is e)
+moment_short payload rest two e = (
+  subst BeginsRound (sym two) (moment_begins rest e),
+  λ entries round. let h = behind payload rest entries two round in
+      not_refused moment-field h.at (flat_map act_in entries) rest Short h.low h.is e,
+)
 
 pub moment_bad : (payload rest : List ℕ) (left : ℕ) → payload ≡ 2 ∷ rest → moment_at rest ≡ Err (Bad left) → IsLeft payload left
 moment_bad payload rest left two e =

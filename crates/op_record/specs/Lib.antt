@@ -7,5 +7,7 @@ pub mod Cuts
 pub mod Rounds
 pub mod Reading
 pub mod RoundReading
+pub mod Packing
+pub mod PackedInside
 pub mod Laws
 pub mod Writing

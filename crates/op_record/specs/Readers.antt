@@ -53,6 +53,10 @@ text_at limit = bind (number_at 2 limit) bytes_at
 unfoldable pub option_at : {X : Type 0} → Reader X → Reader (Option X)
 option_at r = bind (byte_between 0 1) (λ flag. if flag == 0 then done None else bind r (λ x. done (Some x)))
 
+-- the bytes do not begin with this one
+abbrev pub BeginsWithout : ℕ → List ℕ → Type 0
+BeginsWithout first bytes = (rest : List ℕ) → bytes ≡ first ∷ rest → ⊥
+
 -- ---- what a function returned, seen by view, is what a reader gives, unless memory ran out
 
 abbrev pub Fails : {Y : Type 0} → ReadError → Result Y Fault → Type 0

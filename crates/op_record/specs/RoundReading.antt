@@ -1,5 +1,5 @@
 -- How the entries of a round are read: what was read, and where reading stopped.
-use Rattle.std.specs.Prelude.{◌≡◌, ℕ, ◌<◌, ◌≤◌, ◌-◌, List, ◌∷◌, ◌++◌, length, Option, Some, None, Result, Ok, Err}
+use Rattle.std.specs.Prelude.{◌≡◌, ℕ, ◌<◌, ◌≤◌, ◌-◌, List, ◌++◌, length, Option, Some, None, Result, Ok, Err}
 use Rattle.std.specs.List.{flat_map, AllByRecursion}
 use Rattle.op_model.specs.declared.act.Entry.{Entry}
 use Rattle.op_record.specs.declared.fault.Fault.{Fault}
@@ -46,10 +46,6 @@ pub record StopsAt (said : Option ℕ) (bytes : List ℕ) (fault : Fault) : Type
   pub split : bytes ≡ flat_map (text_with said) entries ++ rest
   pub left : 0 < length entries → 0 < length rest
   pub fails : entry_with said rest ≡ Err fault
-
--- the payload does not begin with a 2
-abbrev pub IsOther : List ℕ → Type 0
-IsOther payload = (rest : List ℕ) → payload ≡ 2 ∷ rest → ⊥
 
 -- so many bytes are left from the place on with which no round goes on
 pub record IsLeft (payload : List ℕ) (left : ℕ) : Type 0 where

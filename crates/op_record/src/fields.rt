@@ -2,7 +2,7 @@
 
 ghost use Rattle.std.specs.Prelude.{◌≡◌, ◌≤◌, [], ◌∷◌, ◌<◌, length, IfOk, IfSome, MatchOption};
 ghost use Rattle.op_time.specs.declared.TheConstants.{LAST};
-ghost use Rattle.op_record.specs.Readers.{Gives, byte_between, number_at, bytes_at, text_at, option_at};
+ghost use Rattle.op_record.specs.Readers.{Gives, BeginsWithout, byte_between, number_at, bytes_at, text_at, option_at};
 ghost use Rattle.op_record.specs.Rows.{u32_at, u64_at, moment_at, word_at, account_at, mode_at, reason_at, outcome_at};
 
 use crate::fault::{Fault, ReadError};
@@ -18,6 +18,16 @@ pub(crate) fn first_of(bytes: &[u8]) -> Option<(u8, &[u8])>
     match bytes {
         [] => None,
         [first, rest @ ..] => Some((*first, rest)),
+    }
+}
+
+/// What stands behind this first byte. `None` where the bytes do not begin with it.
+pub(crate) fn behind(bytes: &[u8], first: u8) -> Option<&[u8]>
+    ensures { MatchOption result (BeginsWithout first bytes.now) (λ rest. bytes.now ≡ first ∷ rest.now) }
+{
+    match bytes {
+        [other, rest @ ..] if *other == first => Some(rest),
+        _ => None,
     }
 }
 

@@ -1,6 +1,6 @@
 //! Rounds: the payload of a frame, of either version.
 
-ghost use Rattle.std.specs.Prelude.{◌≡◌, ◌≤◌, ◌∷◌, ◌++◌, ℕ, List, length, IfSome, MatchOption, OnOk, OnErr, Ok, Err};
+ghost use Rattle.std.specs.Prelude.{◌≡◌, ◌≤◌, ◌++◌, ℕ, List, length, IfSome, OnOk, OnErr, Ok, Err};
 ghost use Rattle.op_time.specs.declared.TheConstants.{LAST};
 ghost use Rattle.op_model.specs.declared.act.Entry.{Entry};
 ghost use Rattle.op_record.specs.declared.fault.Fault.{Fault};
@@ -10,21 +10,18 @@ ghost use Rattle.op_record.specs.declared.RecordFault.TheVariants.{Short, Bad};
 ghost use Rattle.op_record.specs.Readers.{Gives};
 ghost use Rattle.op_record.specs.Cuts.{IsUnlessMemory};
 ghost use Rattle.op_record.specs.Rounds.{IsRound, IsCutRound, IsBadRoundAt, IsReadOrMemory};
-ghost use Rattle.op_record.specs.RoundReading.{entry_with, AreRead, StopsAt, IsReadRound, IsLeft, IsOther, Says, Grows};
+ghost use Rattle.op_record.specs.RoundReading.{entry_with, AreRead, StopsAt, IsReadRound, IsLeft, Says, Grows};
 
 use crate::RecordFault;
 use crate::fault::{Fault, ReadError};
-use crate::fields::moment_at;
+use crate::fields::{behind, moment_at};
 use crate::reading::{entry_at, entry_of_round_at};
+use crate::round_writing::VERSION_2;
 use op_model::Entry;
 use std::alloc::Global;
 
 /// An entry with its moment, or one whose moment was said before.
-fn entry_with(
-    alloc: Global,
-    bytes: &[u8],
-    said: Option<u64>,
-) -> Result<(Entry, &[u8]), ReadError>
+fn entry_with(alloc: Global, bytes: &[u8], said: Option<u64>) -> Result<(Entry, &[u8]), ReadError>
     requires { IfSome said (λ at. at ≤ LAST) }
     ensures { Gives (λ x. (x.0, x.1.now)) result (entry_with said bytes.now) }
 {
@@ -57,16 +54,6 @@ fn read_entries(
     }
 }
 
-/// What stands behind the byte with which a payload of version 2 begins. `None` where it is of version 1.
-fn behind_version_2(payload: &[u8]) -> Option<&[u8]>
-    ensures { MatchOption result (IsOther payload.now) (λ rest. payload.now ≡ 2 ∷ rest.now) }
-{
-    match payload {
-        [2, rest @ ..] => Some(rest),
-        _ => None,
-    }
-}
-
 /// Reads the entries of a payload by its version, and puts them behind what is there.
 fn read_payload(alloc: Global, payload: &[u8], into: &mut Vec<Entry>) -> Result<(), ReadError>
     ensures read { OnOk result (IsReadRound payload.now into.old.items into.new.items) }
@@ -74,7 +61,7 @@ fn read_payload(alloc: Global, payload: &[u8], into: &mut Vec<Entry>) -> Result<
     ensures bad { (left : ℕ) → result ≡ Err (errors.Fault (inner.Bad left)) → IsLeft payload.now left }
     ensures grows { Grows into.old.items into.new.items }
 {
-    let Some(rest) = behind_version_2(payload) else {
+    let Some(rest) = behind(payload, VERSION_2) else {
         return read_entries(alloc, payload, None, into);
     };
     match moment_at(rest) {
@@ -111,11 +98,7 @@ fn read_whole(alloc: Global, payload: &[u8], into: &mut Vec<Entry>) -> Result<()
 /// `Short` where a round begins with the payload and goes on, and the payload is none itself; `Bad { at }` where no round
 /// begins with the bytes up to and with that place, and it is the first such place. A payload whose first byte is 2 is of
 /// version 2, any other of version 1.
-pub fn read_round(
-    alloc: Global,
-    payload: &[u8],
-    into: &mut Vec<Entry>,
-) -> Result<(), RecordFault>
+pub fn read_round(alloc: Global, payload: &[u8], into: &mut Vec<Entry>) -> Result<(), RecordFault>
     ensures read { OnOk result (IsReadRound payload.now into.old.items into.new.items) }
     ensures short { result ≡ Err Short → IsCutRound payload.now }
     ensures bad { (at : ℕ) → result ≡ Err (Bad at) → IsBadRoundAt payload.now at }

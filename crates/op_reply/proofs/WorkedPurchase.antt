@@ -16,6 +16,7 @@ use Rattle.op_model.specs.declared.grant.Interact.TheVariants.{Missing, Redirect
 use Rattle.op_model.specs.declared.request.AccountName.TheVariants as accounts
 use Rattle.op_model.specs.declared.request.AskedItem.{AskedItem}
 use Rattle.op_model.specs.declared.request.QuoteAsked.TheVariants as asked
+use Rattle.op_model.specs.declared.request.PaymentAsked.TheVariants.{Quoted}
 use Rattle.op_model.specs.declared.request.Request.{Request}
 use Rattle.op_model.specs.declared.request.Request.TheVariants as requests
 use Rattle.op_model.specs.declared.request.Task.{Task}
@@ -100,7 +101,7 @@ purchase =
     ∷ in_turn 9 (shop (requests.AskGrant (spending ∷ []) (Some client) (Redirect (Some finish))))
     ∷ in_turn 10 (provider (requests.AcceptGrant (Some 3)))
     ∷ in_turn 11 (shop_with (codes "c09090909090909090909090909090909-9") (requests.ContinueGrant (Some 3) (Some (Some (codes "i0a0a0a0a0a0a0a0a0a0a0a0a0a0a0a0a-10")))))
-    ∷ in_turn 12 (shop_with (codes "a0b0b0b0b0b0b0b0b0b0b0b0b0b0b0b0b-11") (requests.MakeOutgoing (named (codes "/alice")) (row kinds.Quote 1) None))
+    ∷ in_turn 12 (shop_with (codes "a0b0b0b0b0b0b0b0b0b0b0b0b0b0b0b0b-11") (requests.MakeOutgoing (named (codes "/alice")) (Quoted (row kinds.Quote 1)) None))
     ∷ in_turn 12 (tasks.Step 1 0)
     ∷ in_turn 13 read_payment
     ∷ in_turn 13 (tasks.Step 1 1)

@@ -89,7 +89,7 @@ outgoing_grant_issued = refl
 
 -- ---- it pays in two pieces
 
-outgoing_made : reply_to 12 ≡ codes "HTTP/1.1 201 Created\r\nconnection: close\r\ncontent-length: 547\r\ncontent-type: application/json\r\n\r\n{\"createdAt\":\"2024-03-01T12:00:12.000Z\",\"debitAmount\":{\"assetCode\":\"USD\",\"assetScale\":2,\"value\":\"1010\"},\"failed\":false,\"id\":\"https://wallet.example/outgoing-payments/00000003-0000-8000-8000-000000000001\",\"quoteId\":\"https://wallet.example/quotes/00000002-0000-8000-8000-000000000001\",\"receiveAmount\":{\"assetCode\":\"USD\",\"assetScale\":2,\"value\":\"1000\"},\"receiver\":\"https://wallet.example/incoming-payments/00000001-0000-8000-8000-000000000001\",\"sentAmount\":{\"assetCode\":\"USD\",\"assetScale\":2,\"value\":\"0\"},\"walletAddress\":\"https://wallet.example/alice\"}"
+outgoing_made : reply_to 12 ≡ codes "HTTP/1.1 201 Created\r\nconnection: close\r\ncontent-length: 621\r\ncontent-type: application/json\r\n\r\n{\"createdAt\":\"2024-03-01T12:00:12.000Z\",\"debitAmount\":{\"assetCode\":\"USD\",\"assetScale\":2,\"value\":\"1010\"},\"failed\":false,\"grantSpentDebitAmount\":{\"assetCode\":\"USD\",\"assetScale\":2,\"value\":\"1010\"},\"id\":\"https://wallet.example/outgoing-payments/00000003-0000-8000-8000-000000000001\",\"quoteId\":\"https://wallet.example/quotes/00000002-0000-8000-8000-000000000001\",\"receiveAmount\":{\"assetCode\":\"USD\",\"assetScale\":2,\"value\":\"1000\"},\"receiver\":\"https://wallet.example/incoming-payments/00000001-0000-8000-8000-000000000001\",\"sentAmount\":{\"assetCode\":\"USD\",\"assetScale\":2,\"value\":\"0\"},\"walletAddress\":\"https://wallet.example/alice\"}"
 unfolding escape_byte digits hex_on_literals hex_of
 outgoing_made = refl
 

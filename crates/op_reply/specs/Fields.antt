@@ -7,7 +7,7 @@ use Rattle.std.specs.Ordering.{nat_cmp, is_gt}
 use Rattle.std.specs.Str.{IsUtf8}
 use Rattle.std.specs.declared.option.Option.{Option}
 use Rattle.serde_json.specs.Data.{Data, boolean, string, Members, no_members, put}
-use Rattle.op_model.specs.Bodies.{optional, whole, digits, text_if, address_url, amount_data, asset_data, grant_url, account_text, state_text, reason_text, list, actions_of, type_text, id}
+use Rattle.op_model.specs.Bodies.{optional, whole, digits, text_if, address_url, amount_data, spent_debit, spent_receive, asset_data, grant_url, account_text, state_text, reason_text, list, actions_of, type_text, id}
 use Rattle.op_amount.specs.Scaled.{scaled}
 use Rattle.op_time.specs.MomentTexts.{moment_text}
 use Rattle.op_model.specs.declared.reply.AccountShown.{AccountShown}
@@ -35,6 +35,8 @@ field_data (field.Code code) = Some (string code.now)
 field_data (field.Asset asset) = Some (asset_data asset.now)
 field_data (field.Amount amount) = Some (amount_data amount.now)
 field_data (field.AmountIf amount) = option_map amount_data amount.now
+field_data (field.SpentDebitIf spent) = spent_debit spent.now
+field_data (field.SpentReceiveIf spent) = spent_receive spent.now
 field_data (field.Scaled value scale) = Some (string (scaled value scale))
 field_data (field.Moment moment) = Some (string (moment_text moment))
 field_data (field.Id kind n) = Some (string (id kind n))

@@ -10,7 +10,7 @@ ghost use Rattle.op_reply.specs.Fields.{field_data, members_data, put_if as with
 
 use crate::values::Json;
 use op_amount::{Amount, Asset, AssetCode};
-use op_model::{AccountShown, IntervalText, PaymentState, Text};
+use op_model::{AccountShown, GrantSpent, IntervalText, PaymentState, Text};
 use op_names::{AddressPath, Kind, Origin, SecretText};
 use op_time::Moment;
 use serde_json::{Map, Value, put};
@@ -40,6 +40,9 @@ pub enum Field<'a> {
     Asset(&'a Asset),
     Amount(&'a Amount),
     AmountIf(&'a Option<Amount>),
+    /// What was spent of a debit cap, and of a receive cap; the member is left out where there is no such cap.
+    SpentDebitIf(&'a Option<GrantSpent>),
+    SpentReceiveIf(&'a Option<GrantSpent>),
     /// A value and how many digits stand behind its point.
     Scaled(u64, u8),
     Moment(Moment),
@@ -90,6 +93,8 @@ fn value_of(alloc: Global, field: &Field<'_>) -> Result<Option<Json>, AllocError
         Field::Asset(asset) => Json::asset(alloc, asset)?,
         Field::Amount(amount) => Json::amount(alloc, amount)?,
         Field::AmountIf(Some(amount)) => Json::amount(alloc, amount)?,
+        Field::SpentDebitIf(Some(GrantSpent::Debit(amount))) => Json::amount(alloc, amount)?,
+        Field::SpentReceiveIf(Some(GrantSpent::Receive(amount))) => Json::amount(alloc, amount)?,
         Field::Scaled(value, scale) => Json::scaled(alloc, value, scale)?,
         Field::Moment(moment) => Json::moment(alloc, moment)?,
         Field::Id(kind, number) => Json::id(alloc, kind, number)?,
@@ -123,6 +128,8 @@ fn value_of(alloc: Global, field: &Field<'_>) -> Result<Option<Json>, AllocError
         | Field::SecretIf(None)
         | Field::IntervalIf(None)
         | Field::AmountIf(None)
+        | Field::SpentDebitIf(None | Some(GrantSpent::Receive(_)))
+        | Field::SpentReceiveIf(None | Some(GrantSpent::Debit(_)))
         | Field::IdIf(_, None)
         | Field::AddressUrlIf(_, None)
         | Field::RowUrlIf(_, _, _, None)

@@ -3,14 +3,14 @@
 ghost use Rattle.std.specs.Prelude.{◌≡◌, ℕ, List, IfOk, IfSome, map, option_map, slice_get};
 ghost use Rattle.std.specs.Str.{IsUtf8};
 ghost use Rattle.op_model.specs.History.{last as last_of};
-ghost use Rattle.op_model.specs.Bodies.{metadata_data, incoming_data, quote_data, outgoing_data, page_data, list_data, list, incomings_listed_data, outgoings_listed_data, event_data, feed_read_data};
+ghost use Rattle.op_model.specs.Bodies.{metadata_data, incoming_data, quote_data, outgoing_data, outgoing_made_data, page_data, list_data, list, incomings_listed_data, outgoings_listed_data, event_data, feed_read_data};
 ghost use Rattle.op_reply.specs.Parts.{sent_data};
 ghost use Rattle.op_reply.specs.Values.{data_of};
 ghost use Rattle.op_reply.specs.Printable.{AreIncomingTexts, AreOutgoingTexts, AreEventTexts};
 
 use crate::fields::{Field, object, two_of};
 use crate::values::Json;
-use op_model::{FeedEvent, IncomingShown, MetaText, OutgoingShown, QuoteShown};
+use op_model::{FeedEvent, GrantSpent, IncomingShown, MetaText, OutgoingShown, QuoteShown};
 use op_names::{Kind, Origin};
 use std::alloc::{AllocError, Global};
 
@@ -104,8 +104,22 @@ pub fn outgoing(alloc: Global, origin: &Origin, shown: &OutgoingShown) -> Result
     requires path { IsUtf8 shown.now.path }
     ensures { IfOk result (λ json. data_of json ≡ outgoing_data origin.now shown.now) }
 {
+    outgoing_made(alloc, origin, shown, &None)
+}
+
+/// A payment right after it was made, and what its grant has spent.
+pub fn outgoing_made(
+    alloc: Global,
+    origin: &Origin,
+    shown: &OutgoingShown,
+    spent: &Option<GrantSpent>,
+) -> Result<Json, AllocError>
+    requires origin { IsUtf8 origin.now }
+    requires path { IsUtf8 shown.now.path }
+    ensures { IfOk result (λ json. data_of json ≡ outgoing_made_data origin.now shown.now spent.now) }
+{
     let metadata = metadata_if(alloc, &shown.metadata)?;
-    outgoing_with(alloc, origin, shown, &metadata)
+    outgoing_with(alloc, origin, shown, spent, &metadata)
 }
 
 /// The same, with its metadata printed.
@@ -113,12 +127,13 @@ fn outgoing_with<'x>(
     alloc: Global,
     origin: &'x Origin,
     shown: &'x OutgoingShown,
+    spent: &'x Option<GrantSpent>,
     metadata: &'x Option<Json>,
 ) -> Result<Json, AllocError>
     requires origin { IsUtf8 origin.now }
     requires path { IsUtf8 shown.now.path }
     requires metadata { option_map data_of metadata.now ≡ option_map metadata_data shown.now.metadata }
-    ensures { IfOk result (λ json. data_of json ≡ outgoing_data origin.now shown.now) }
+    ensures { IfOk result (λ json. data_of json ≡ outgoing_made_data origin.now shown.now spent.now) }
 {
     object(
         alloc,
@@ -126,6 +141,8 @@ fn outgoing_with<'x>(
             ("createdAt", Field::Moment(shown.made)),
             ("debitAmount", Field::Amount(&shown.debit)),
             ("failed", Field::Flag(shown.failed)),
+            ("grantSpentDebitAmount", Field::SpentDebitIf(spent)),
+            ("grantSpentReceiveAmount", Field::SpentReceiveIf(spent)),
             (
                 "id",
                 Field::RowUrl(origin, OUTGOINGS, Kind::Outgoing, shown.number),

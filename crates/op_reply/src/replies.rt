@@ -112,8 +112,8 @@ pub fn said(alloc: Global, reply: &Reply) -> Result<Said<'_>, AllocError>
         }
         ReplyBody::QuoteMade { quote } => Ok(Said::created(payments::quote(alloc, origin, quote)?)),
         ReplyBody::QuoteRead { quote } => Ok(Said::ok(payments::quote(alloc, origin, quote)?)),
-        ReplyBody::OutgoingMade { outgoing } => {
-            Ok(Said::created(payments::outgoing(alloc, origin, outgoing)?))
+        ReplyBody::OutgoingMade { outgoing, spent } => {
+            Ok(Said::created(payments::outgoing_made(alloc, origin, outgoing, spent)?))
         }
         ReplyBody::OutgoingRead { outgoing } => {
             Ok(Said::ok(payments::outgoing(alloc, origin, outgoing)?))

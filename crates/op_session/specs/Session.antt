@@ -9,14 +9,14 @@ use Rattle.op_ports.specs.Words.{DrawsKnown}
 use Rattle.op_model.specs.Printed.{printed}
 use Rattle.op_model.specs.Requests.{IsWholeRequest, IsEnded, IsBadHttp, IsLengthRequired, IsTooLarge, BeginsWithNoRequest, Raw}
 use Rattle.op_model.specs.Round.{FeesAllowed, refusal_reply}
+use Rattle.op_model.specs.declared.act.Entry.{Entry}
+use Rattle.op_model.specs.declared.reply.Refusal.{Refusal}
+use Rattle.op_model.specs.declared.reply.Refusal.TheVariants.{BadHttp, LengthRequired, RequestTooLarge, DiskFault, JournalFull}
 use Rattle.op_session.specs.Stood.{Stood, now, opened_with}
 use Rattle.op_session.specs.Turn.{Standing, Turn, Begins, Run, turn_limit}
 use Rattle.op_session.specs.World.{World}
-use Rattle.op_model.specs.declared.act.Entry.{Entry}
 use Rattle.op_session.specs.declared.end.End.{End}
 use Rattle.op_session.specs.declared.end.End.TheVariants as ends
-use Rattle.op_model.specs.declared.reply.Refusal.{Refusal}
-use Rattle.op_model.specs.declared.reply.Refusal.TheVariants.{BadHttp, LengthRequired, RequestTooLarge, DiskFault, JournalFull}
 
 -- ---- what there is at the end
 

@@ -2,8 +2,8 @@ use Rattle.std.proofs.Common.{◌≡◌, List, ◌++◌, inl, inr, ◌∙◌, ap
 use Rattle.op_desk.proofs.Lists.{all-front}
 use Rattle.op_desk.specs.Wallets.{IsSound}
 use Rattle.op_model.proofs.LegalNext.{legal-front}
-use Rattle.op_session.specs.Stood.{Stood, now, with_rounds, entries_of}
 use Rattle.op_model.specs.declared.act.Entry.{Entry}
+use Rattle.op_session.specs.Stood.{Stood, now, with_rounds, entries_of}
 use Rattle.op_cli.proofs.Journals.{now_more}
 use Rattle.op_cli.proofs.laws.calls_are_one_history.Goals as goal
 

@@ -1,7 +1,7 @@
 use Rattle.std.proofs.Common.{◌++◌, List, ℕ, refl, sym, subst, ap, ◌∙◌}
 use Rattle.std.specs.Io.KnownBytes.{Appends}
-use Rattle.op_session.specs.Session.{settled}
 use Rattle.op_model.specs.declared.act.Entry.{Entry}
+use Rattle.op_session.specs.Session.{settled}
 use Rattle.op_cli.specs.Kept.{history_at}
 use Rattle.op_cli.specs.Turns.{NotStood}
 use Rattle.op_cli.proofs.Journals.{leaves_same}

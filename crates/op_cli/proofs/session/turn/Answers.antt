@@ -1,7 +1,7 @@
 use Rattle.std.proofs.Common.{List, sym, subst, ap}
 use Rattle.op_http.specs.Reader.{Takes}
-use Rattle.op_session.specs.Session.{settled}
 use Rattle.op_model.specs.declared.act.Entry.{Entry}
+use Rattle.op_session.specs.Session.{settled}
 use Rattle.op_cli.specs.Kept.{history_at}
 use Rattle.op_cli.specs.Told.{world_of}
 use Rattle.op_cli.specs.Turns.{Unread}

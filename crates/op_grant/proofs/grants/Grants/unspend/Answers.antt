@@ -1,7 +1,7 @@
 use Rattle.std.proofs.Common.{◌≤◌, ◌-◌, sym, ap, subst}
 use Rattle.std.specs.Prelude.{unwrap_or}
 use Rattle.op_grant.specs.Value.{spent_in}
-use Rattle.op_grant.proofs.Spending.{given_back_is, nothing_given_back}
+use Rattle.op_grant.proofs.MaySpend.{given_back_is, nothing_given_back}
 use Rattle.op_grant.proofs.grants.Grants.unspend.Goals as goal
 use Rattle.op_grant.proofs.grants.Grants.unspend.Goals.{in-Some, in_default}
 
