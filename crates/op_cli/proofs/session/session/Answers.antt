@@ -47,8 +47,8 @@ loop-answered-preserved g c =
     let stood = c.loop-answered.invariant.0 in
     let inv = c.loop-answered.invariant.1 in
     let n = c.loop-answered._answered in
-    let turned = c.in-Ok.ensures.ok stood inv.stands in
-    let moved = c.in-Ok.ensures.moved in (
+    let turned = c.in-Ok-turn.ensures.ok stood inv.stands in
+    let moved = c.in-Ok-turn.ensures.moved in (
       with_entries stood turned.0,
       record {
         stands = now_with stood turned.0 ∙ sym turned.1;
@@ -57,12 +57,12 @@ loop-answered-preserved g c =
             inv.goes_on after end final (one_more _ _ _ step.0 after end final step.1 rest);
         kept = kept_more g.D.Disk.tells g.D.Disk.seen g.D.Disk.moment g.D.Disk.since g.D.Disk.images g.D.Disk.faults g.met.D.Disk.only_now (history_at c.args.desk) stood (settled (with_entries stood turned.0)) c.args.outside.now.disk c.loop-answered.outside.disk c.turn.new.outside.disk
             inv.kept inv.disk_kept turned.3;
-        ready = c.in-Ok.ensures.ready;
+        ready = c.in-Ok-turn.ensures.ready;
         at = omega (arith, moved, inv.at);
-        read_kept = c.in-Ok.ensures.read_kept (λ e. cc) ∙ inv.read_kept;
-        disk_kept = c.in-Ok.ensures.disk_kept (λ e. cc) (λ e. cc) ∙ inv.disk_kept;
-        write_kept = c.in-Ok.ensures.write_kept (λ e. cc) ∙ inv.write_kept;
-        draw_kept = c.in-Ok.ensures.draw_kept (λ e. cc) ∙ inv.draw_kept;
+        read_kept = c.in-Ok-turn.ensures.read_kept (λ e. cc) ∙ inv.read_kept;
+        disk_kept = c.in-Ok-turn.ensures.disk_kept (λ e. cc) (λ e. cc) ∙ inv.disk_kept;
+        write_kept = c.in-Ok-turn.ensures.write_kept (λ e. cc) ∙ inv.write_kept;
+        draw_kept = c.in-Ok-turn.ensures.draw_kept (λ e. cc) ∙ inv.draw_kept;
       },
     )
 
