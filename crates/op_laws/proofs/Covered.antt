@@ -301,8 +301,8 @@ moved_more terms s f s' f' a b c d ea eb ec ed is = record {
   fee_within = let h = is.fee_within in omega (arith, h, ed);
 }
 
-piece_allowed : (history : List Entry) (e : Entry) (p : ℕ) (row : OutgoingRow) → AreCovered history → AreGood history row.terms → IsStepEntry history e p row → is_piece p e.act ≡ true → IsSendingNow history p row → IsAllowed history e (piece_legs history row (renewed (history ++ e ∷ []) p row))
-piece_allowed history e p row old good step piece now =
+piece_allowed : (history : List Entry) (e : Entry) (t p : ℕ) (row : OutgoingRow) → AreCovered history → AreGood history row.terms → IsStepEntry history e p row → is_piece p e.act ≡ true → IsSendingNow history t p row → IsAllowed history e (piece_legs history row (renewed (history ++ e ∷ []) p row))
+piece_allowed history e t p row old good step piece now =
     let new = renewed (history ++ e ∷ []) p row in
     let terms = row.terms in
     let n = pieces_sent history p in
@@ -346,12 +346,12 @@ piece_allowed history e p row old good step piece now =
           (outside_went (source == target) history terms.payer terms.payee sent fee delivered m) (old.top m);
     })
 
-piece_entry : (history : List Entry) (e : Entry) (p : ℕ) (row : OutgoingRow) → AreKnown history → AreCovered history → IsStepEntry history e p row → is_piece p e.act ≡ true → IsSendingNow history p row → IsAllowed history e (growth_legs (piece_legs history) history e p)
-piece_entry history e p row known old step piece now =
+piece_entry : (history : List Entry) (e : Entry) (t p : ℕ) (row : OutgoingRow) → AreKnown history → AreCovered history → IsStepEntry history e p row → is_piece p e.act ≡ true → IsSendingNow history t p row → IsAllowed history e (growth_legs (piece_legs history) history e p)
+piece_entry history e t p row known old step piece now =
     let moves : growth_legs (piece_legs history) history e p ≡ piece_legs history row (renewed (history ++ e ∷ []) p row) =
     ap (λ o. grown (piece_legs history) o (outgoing_row (history ++ e ∷ []) p)) step.there
     ∙ ap (λ o. grown (piece_legs history) (Some row) o) (row_step history e p row step) in
-    subst (IsAllowed history e) (sym moves) (piece_allowed history e p row old (terms_good history p row known step.there) step piece now)
+    subst (IsAllowed history e) (sym moves) (piece_allowed history e t p row old (terms_good history p row known step.there) step piece now)
 
 -- ---- every entry
 
@@ -374,10 +374,10 @@ act_allowed history t (acts.OutgoingDirect grant address incoming debit source f
 act_allowed history t (acts.OutgoingFunded p k) known old next = funding_allowed history t p k old next
 act_allowed history t (acts.OutgoingSent p k) known old next =
     let is = sent_acts history t p k next in
-    piece_entry history (record { at = t; act = acts.OutgoingSent p k }) p is.row known old (record { there = is.there; steps = sent_steps history t p k }) (same_self p) (sending_now history t p k (acts.OutgoingSent p k) is (same_self p))
+    piece_entry history (record { at = t; act = acts.OutgoingSent p k }) t p is.row known old (record { there = is.there; steps = sent_steps history t p k }) (same_self p) (sending_now history t p k (acts.OutgoingSent p k) is (same_self p))
 act_allowed history t (acts.OutgoingCompleted p k) known old next =
     let is = completed_acts history t p k next in
-    piece_entry history (record { at = t; act = acts.OutgoingCompleted p k }) p is.row known old (record { there = is.there; steps = completed_steps history t p k }) (same_self p) (sending_now history t p k (acts.OutgoingCompleted p k) is (same_self p))
+    piece_entry history (record { at = t; act = acts.OutgoingCompleted p k }) t p is.row known old (record { there = is.there; steps = completed_steps history t p k }) (same_self p) (sending_now history t p k (acts.OutgoingCompleted p k) is (same_self p))
 act_allowed history t (acts.OutgoingFailed p k reason) known old next =
     let is = failed_acts history t p k reason next in
     failing_allowed history (record { at = t; act = acts.OutgoingFailed p k reason }) p is.row old (record { there = is.there; steps = failed_steps history t p k reason }) (ap is_sending (failed_state history t p k reason))

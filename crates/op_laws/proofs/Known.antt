@@ -69,6 +69,7 @@ good_stays history e terms good = record {
   debit = good.debit;
   some = good.some;
   receive = good.receive;
+  top = good.top;
   den = good.den;
 }
 

@@ -14,3 +14,4 @@ pub mod Paying
 pub mod Covered
 pub mod Caps
 pub mod AllLaws
+pub mod Received

@@ -148,6 +148,7 @@ pub record AreGood (history : List Entry) (terms : Terms) : Type 0 where
   pub debit : terms.debit ≡ terms.source + terms.fee
   pub some : 0 < terms.source
   pub receive : terms.receive ≡ floor_mul terms.source terms.num terms.den
+  pub top : terms.receive ≤ TOP
   pub den : 0 < terms.den
 
 record IsPriced (rate : Rate) (p : Priced) : Type 0 where
@@ -157,11 +158,15 @@ record IsPriced (rate : Rate) (p : Priced) : Type 0 where
   num : p.num ≡ rate.num
   den : p.den ≡ rate.den
   gives : 0 < p.receive
+  top : p.receive ≤ TOP
 
-not_small : (large small over : Bool) (room : ℕ) (p price : Priced) → cond large (Err faults.TooLarge) (cond small (Err faults.TooSmall) (cond over (Err (faults.OverReceiver room)) (Ok p))) ≡ Ok price → small ≡ false
+not_small : (large small over : Bool) (room : ℕ) (p price : Priced) → cond large (Err faults.TooLarge) (cond small (Err faults.TooSmall) (cond over (Err (faults.OverReceiver room)) (Ok p))) ≡ Ok price → (small ≡ false) × (large ≡ false)
 not_small true small over room p price h = absurd (let e : Err faults.TooLarge ≡ Ok price = h in cc)
 not_small false true over room p price h = absurd (let e : Err faults.TooSmall ≡ Ok price = h in cc)
-not_small false false over room p price h = refl
+not_small false false over room p price h = (refl, refl)
+
+no_more : (n : ℕ) → nat_lt TOP n ≡ false → n ≤ TOP
+no_more n h = grind (arith, nat_tests)
 
 not_none : (n : ℕ) → (n == 0) ≡ false → 0 < n
 not_none n h = grind (arith, nat_tests)
@@ -174,9 +179,10 @@ priced_is : (fee : ℕ) (p : Pricing) (price : Priced) → priced fee p ≡ Ok p
 priced_is fee p price h =
     let terms = terms_of fee p.rate p.mode in
     let small = not_small (is_too_large terms) (is_too_small terms) (is_over_receiver terms p.room) p.room terms price (priced_ok (price_with fee p.rate p.mode p.room) price h) in
-    let some : 0 < source_of fee p.rate p.mode = not_none (source_of fee p.rate p.mode) (or_left (terms.source == 0) (terms.receive == 0) small) in
-    let gives : 0 < terms.receive = not_none terms.receive (or_right (terms.source == 0) (terms.receive == 0) small) in
-    subst (IsPriced p.rate) (price_is fee p price h) (record { debit = debit_is fee p.rate p.mode some; some = some; receive = refl; num = refl; den = refl; gives = gives })
+    let some : 0 < source_of fee p.rate p.mode = not_none (source_of fee p.rate p.mode) (or_left (terms.source == 0) (terms.receive == 0) small.0) in
+    let gives : 0 < terms.receive = not_none terms.receive (or_right (terms.source == 0) (terms.receive == 0) small.0) in
+    let top : terms.receive ≤ TOP = no_more terms.receive (or_right (nat_lt TOP terms.source) (nat_lt TOP terms.receive) (or_right (nat_lt TOP terms.fee) _ (or_right (nat_lt TOP terms.debit) _ small.1))) in
+    subst (IsPriced p.rate) (price_is fee p price h) (record { debit = debit_is fee p.rate p.mode some; some = some; receive = refl; num = refl; den = refl; gives = gives; top = top })
 
 some_den : (a num den : ℕ) → 0 < floor_mul a num den → 0 < den
 some_den a num zero h = let none : a * num / zero ≡ zero = div-zero (a * num) in omega (arith, h, none)
@@ -243,6 +249,7 @@ good_of history address incoming p x addressed is price =
       debit = price.debit;
       some = price.some;
       receive = price.receive;
+      top = price.top;
       den = some_den x.source x.num x.den (subst (λ (n : ℕ). 0 < n) price.receive price.gives);
     }
 

@@ -70,8 +70,9 @@ funded_answer p k (answers.Waiting shortage) act funding h = none_is_not act h
 
 -- ---- a piece
 
-pub record IsSendingNow (history : List Entry) (p : ℕ) (row : OutgoingRow) : Type 0 where
+pub record IsSendingNow (history : List Entry) (t p : ℕ) (row : OutgoingRow) : Type 0 where
   pub sending : row.state ≡ states.Sending
+  pub waits : is_receiver_open history row t ≡ true
   pub liquid : (not (address_asset history row.terms.payer == address_asset history row.terms.payee) && nat_lt (available history (Pool (address_asset history row.terms.payee))) (next_delivery row.terms (pieces_sent history p))) ≡ false
 
 sent_of_funding : (history : List Entry) (row : OutgoingRow) (t : ℕ) → is_sent (funding_step history row t) ≡ false
@@ -80,7 +81,11 @@ sent_of_funding history row t =
     never is_sent (nat_le row.expiry t) (answers.Failed QuoteExpired) (cond (nat_lt there row.terms.debit) (answers.Waiting (NotFunded there row.terms.debit)) answers.Funded) refl
     (never is_sent (nat_lt there row.terms.debit) (answers.Waiting (NotFunded there row.terms.debit)) answers.Funded refl refl)
 
-sent_of_state : (history : List Entry) (p : ℕ) (row : OutgoingRow) (t : ℕ) (state : PaymentState) → row.state ≡ state → is_sent (state_step history p row t state) ≡ true → IsSendingNow history p row
+opened : (b : Bool) → not b ≡ false → b ≡ true
+opened true h = refl
+opened false h = absurd (let e : true ≡ false = h in cc)
+
+sent_of_state : (history : List Entry) (p : ℕ) (row : OutgoingRow) (t : ℕ) (state : PaymentState) → row.state ≡ state → is_sent (state_step history p row t state) ≡ true → IsSendingNow history t p row
 sent_of_state history p row t states.Funding is h = absurd (let e : true ≡ false = sym h ∙ sent_of_funding history row t in cc)
 sent_of_state history p row t states.Sending is h =
     let there = available history (Pool (address_asset history row.terms.payee)) in
@@ -89,11 +94,11 @@ sent_of_state history p row t states.Sending is h =
     let all = cond (is_last row.terms (pieces_sent history p)) answers.Completed answers.Sent in
     let may = took_else is_sent (not (is_receiver_open history row t)) (answers.Failed ReceiverClosed) (cond short (answers.Waiting (NoLiquidity there need)) all) refl h in
     let liquid = took_else is_sent short (answers.Waiting (NoLiquidity there need)) all refl may.1 in
-    record { sending = is; liquid = liquid.0 }
+    record { sending = is; waits = opened (is_receiver_open history row t) may.0; liquid = liquid.0 }
 sent_of_state history p row t states.Completed is h = absurd (let e : false ≡ true = h in cc)
 sent_of_state history p row t states.Failed is h = absurd (let e : false ≡ true = h in cc)
 
-pub sending_now : (history : List Entry) (t p k : ℕ) (act : Act) (is : IsStepAct history t p k act) → is_piece p act ≡ true → IsSendingNow history p is.row
+pub sending_now : (history : List Entry) (t p k : ℕ) (act : Act) (is : IsStepAct history t p k act) → is_piece p act ≡ true → IsSendingNow history t p is.row
 sending_now history t p k act is piece = sent_of_state history p is.row t is.row.state refl (sent_answer p k (state_step history p is.row t is.row.state) act piece is.does)
 
 -- ---- a funding

@@ -3,6 +3,7 @@
 
 ghost use Rattle.op_laws.specs.Keep.{StepsAreTakenOnce, AssetsSumToZero, PaymentsDebitAndDeliver, NothingIsOverdrawn, SpendingIsCapped};
 ghost use Rattle.op_laws.specs.Placed.{PaymentsArePlaced};
+ghost use Rattle.op_laws.specs.Received.{ReceivedIsBounded};
 ghost use Rattle.op_model.specs.Laws.{LegalHistoriesKeepLaws};
 
 /// No two entries of a legal history take one step of a payment.
@@ -39,4 +40,9 @@ pub fn laws_are_kept()
 /// asset.
 pub fn payments_are_placed()
     ensures { PaymentsArePlaced }
+{}
+
+/// What an incoming payment of a legal history has received is below twice the greatest amount.
+pub fn received_is_bounded()
+    ensures { ReceivedIsBounded }
 {}

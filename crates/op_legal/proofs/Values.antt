@@ -18,7 +18,7 @@ use Rattle.op_model.specs.Actions as actions
 use Rattle.op_model.specs.Asking.{caller, access, address_named, row_named, Found}
 use Rattle.op_amount.specs.Asset.{is_same_asset}
 use Rattle.op_model.specs.History.{asset_of_address, last, rate_between, rate_set, address_asset}
-use Rattle.op_model.specs.Incoming.{is_open, room_of}
+use Rattle.op_model.specs.Incoming.{is_open, room_of, bound_of}
 use Rattle.op_model.specs.Legal.{IsLegal, IsNext, is_amount, is_asset, is_rate_number, is_quote_asked, passes, amount_of}
 use Rattle.op_model.specs.PaymentAnswers.{Pricing, QuotePricing, quote_pricing, pricing_of, priced, mode_of, mode_kind, is_strange_asked, is_rest, fits_assets, pair_of, receiver_named, rate_to, looks_at_address, direct_pricing, direct_price}
 use Rattle.op_model.specs.Payments.{incomings, incoming_made, incoming_row}
@@ -81,6 +81,16 @@ has_values = legal_induction HasValues (record { rates = tt; bounds = tt }) (λ 
   rates = all-append (λ f. SetsRateValue f.act) history (e ∷ []) has.rates (sets_value history e.at e.act next, tt);
   bounds = subst (AllByRecursion IsBounded) (sym (incomings-next history e)) (all-append IsBounded (incomings history) (option_to_list (incoming_made e.at e.act)) has.bounds (bounded history e.at e.act next));
 })
+
+bound_where_small : (row : IncomingRow) → IsBounded row → bound_of row ≤ TOP
+bound_where_small row h = within row.amount h
+  where
+    within : (amount : Option ℕ) → IfSome amount (λ v. v ≤ TOP) → unwrap_or amount TOP ≤ TOP
+    within None g = omega arith
+    within (Some v) g = g
+
+pub bound_small : (history : List Entry) (i : ℕ) (row : IncomingRow) → HasValues history → incoming_row history i ≡ Some row → bound_of row ≤ TOP
+bound_small history i row has is = bound_where_small row (nth_in IsBounded (incomings history) i row has.bounds is)
 
 -- ---- rates
 
