@@ -1,5 +1,5 @@
+mod Built
 mod Journals
-mod Meant
 mod Openings
 mod Printable
 mod Results

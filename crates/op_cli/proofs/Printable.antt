@@ -8,7 +8,7 @@ use Rattle.op_names.specs.Forms.{is_web, is_origin}
 use Rattle.op_api.proofs.Clients.{IsUtf8-from_visible}
 use Rattle.op_model.specs.History.{origin_of, origin_set, origins}
 use Rattle.op_model.specs.Legal.{IsLegal, IsLegalFrom, asked_by, is_proper}
-use Rattle.op_model.specs.Printed.{is_built}
+use Rattle.op_desk.specs.Built.{is_built_refusal, is_built_reply}
 use Rattle.op_model.specs.declared.act.Act.{Act}
 use Rattle.op_model.specs.declared.act.Act.TheVariants.{OriginSet}
 use Rattle.op_model.specs.declared.act.Entry.{Entry}
@@ -51,15 +51,16 @@ legal_origin history legal = set_text (last_or None (origins history)) (origin_f
 
 -- ---- bodies of a built form
 
-refusal_text : (refusal : Refusal) → is_built (replies.Refused refusal) ≡ true → IsRefusalText refusal
+refusal_text : (refusal : Refusal) → is_built_refusal refusal ≡ true → IsRefusalText refusal
 refusal_text (refusals.BadField name) e = IsUtf8-from_is_utf8 name e
-refusal_text (refusals.InvalidRequest name) e = absurd cc
+refusal_text (refusals.InvalidRequest None) e = tt
+refusal_text (refusals.InvalidRequest (Some name)) e = IsUtf8-from_is_utf8 name e
 refusal_text _ e = tt
 
-body_text : (origin : List ℕ) (body : ReplyBody) → is_built body ≡ true → IsBodyText origin body
+body_text : (origin : List ℕ) (body : ReplyBody) → is_built_reply body ≡ true → IsBodyText origin body
 body_text origin (replies.AssetAdded asset pieces) e = tt
 body_text origin (replies.Refused refusal) e = refusal_text refusal e
 body_text origin _ e = absurd cc
 
-pub built_is_printable : (reply : Reply) → IsUtf8 reply.origin → IsTrue (is_built reply.body) → IsPrintable reply
+pub built_is_printable : (reply : Reply) → IsUtf8 reply.origin → IsTrue (is_built_reply reply.body) → IsPrintable reply
 built_is_printable reply origin built = record { origin = origin; body = body_text reply.origin reply.body built }

@@ -1,5 +1,5 @@
 -- A session goes on by a turn, and ends.
-use Rattle.std.proofs.Common.{◌≡◌, ℕ, List, [], ◌∷◌, Some, None, refl, ap}
+use Rattle.std.proofs.Common.{◌≡◌, ℕ, List, [], ◌∷◌, Some, None, refl, ap, subst, arith}
 use Rattle.std.specs.declared.option.Option.{Option}
 use Rattle.std.specs.Io.KnownBytes.{prepend_known}
 use Rattle.op_http.specs.Held.{Held}
@@ -10,7 +10,7 @@ use Rattle.op_session.specs.Stood.{Stood, opened_with}
 use Rattle.op_session.specs.Turn.{Standing, Turn, IsTurn, turn_limit}
 use Rattle.op_session.specs.World.{World}
 use Rattle.op_session.specs.declared.end.End.{End}
-use Rattle.op_session.specs.declared.end.End.TheVariants.{TurnLimit}
+use Rattle.op_session.specs.declared.end.End.TheVariants.{TurnLimit, OutOfMemory}
 use Rattle.op_cli.specs.Turns.{here}
 use Rattle.op_cli.proofs.TurnLemmas.{asks_none, draws_none, keeps_same, consumes_held}
 
@@ -39,3 +39,15 @@ at_limit allows stood held w n e = record {
   draws = draws_none w.words;
   cause = (e, record { unasked = refl; undrawn = refl; unwritten = keeps_same w.written; same = refl });
 }
+
+-- memory was wanting before anything was read
+pub no_table : (allows : FeesAllowed) (first : List Entry) (w : World) → Session allows (begun first w) w OutOfMemory (settled (opened_with first))
+no_table allows first w =
+    subst (λ (standing : Standing). Session allows standing w OutOfMemory (settled (opened_with first))) (begins_fresh first w)
+    (at_once allows (here (opened_with first) (record { bytes = []; at = 0 }) w 0) w OutOfMemory (settled (opened_with first)) (record {
+      since = record { held = []; asked = []; drawn = [] };
+      read = consumes_held (record { bytes = []; at = 0 }) w.left;
+      clock = asks_none w.answers;
+      draws = draws_none w.words;
+      cause = (omega arith, omega arith, keeps_same w.written, refl);
+    }))

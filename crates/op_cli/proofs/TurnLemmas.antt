@@ -9,7 +9,7 @@ use Rattle.op_http.specs.declared.reader.HttpFault.TheVariants as http
 use Rattle.op_ports.specs.Clock.{AsksKnown}
 use Rattle.op_ports.specs.Sink.{AppendsFront}
 use Rattle.op_ports.specs.Words.{DrawsKnown}
-use Rattle.op_model.specs.Meant.{meant_so_far}
+use Rattle.op_session.specs.Built.{meant_so_far}
 use Rattle.op_model.specs.Printed.{printed}
 use Rattle.op_model.specs.Requests.{Raw, BeginsWithNoRequest}
 use Rattle.op_model.specs.Round.{FeesAllowed, refusal_reply}

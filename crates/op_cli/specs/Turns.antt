@@ -1,9 +1,11 @@
 -- The parts of a turn.
-use Rattle.std.specs.Prelude.{◌≡◌, ◌≢◌, ◌⊎◌, ◌+◌, ◌<◌, ℕ, Bool, true, List, [], ◌∷◌, ◌++◌, length}
+use Rattle.std.specs.Prelude.{◌≡◌, ◌≢◌, ◌⊎◌, ◌+◌, ◌<◌, ℕ, Bool, true, List, [], ◌∷◌, ◌++◌, length, ⊤, IsTrue}
 use Rattle.std.specs.Io.KnownBytes.{Appends, Keeps}
 use Rattle.std.specs.declared.option.Option.{Option}
 use Rattle.std.specs.declared.result.Result.{Result}
-use Rattle.op_desk.specs.Built.{is_built_request}
+use Rattle.op_api.specs.declared.request.ApiFault.{ApiFault}
+use Rattle.op_api.specs.declared.request.ApiFault.TheVariants as api
+use Rattle.op_desk.specs.Built.{is_built_request, is_built_refusal}
 use Rattle.op_desk.specs.Wallets.{Handles}
 use Rattle.op_http.specs.Held.{Held}
 use Rattle.op_http.specs.Reader.{stream}
@@ -14,7 +16,7 @@ use Rattle.op_ports.specs.Sink.{AppendsFront}
 use Rattle.op_ports.specs.Words.{DrawsKnown}
 use Rattle.op_model.specs.History.{moment_of_turn}
 use Rattle.op_model.specs.Legal.{keeps_forms}
-use Rattle.op_model.specs.Meant.{meant_so_far}
+use Rattle.op_session.specs.Built.{meant_so_far}
 use Rattle.op_model.specs.Printed.{printed}
 use Rattle.op_model.specs.Requests.{Raw}
 use Rattle.op_model.specs.Round.{FeesAllowed, refusal_reply}
@@ -65,6 +67,11 @@ Answers allows old verdict answer word asked reply entries =
 pub record IsFit (request : Request) : Type 0 where
   pub built : is_built_request request ≡ true
   pub forms : keeps_forms request ≡ true
+
+-- the refusal of a request that is not understood has a form that is built
+abbrev pub IsBuiltFault : ApiFault → Type 0
+IsBuiltFault (api.Refused refusal) = IsTrue (is_built_refusal refusal)
+IsBuiltFault api.Memory = ⊤
 
 -- the task is handled in a turn at which the clock gave this answer and this word was drawn, and its reply is written
 abbrev pub Handled : FeesAllowed → (old entries : List Entry) (written written' : Option (List ℕ)) → ℕ → List ℕ → Task → Type 0

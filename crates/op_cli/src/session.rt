@@ -4,14 +4,14 @@ ghost use Rattle.std.specs.Io.KnownBytes.{Appends};
 ghost use Rattle.std.specs.Str.{IsUtf8};
 ghost use Rattle.op_causes.specs.Causes.{Rose};
 ghost use Rattle.op_desk.specs.Batches.{history_in};
-ghost use Rattle.op_desk.specs.Built.{is_built_task};
+ghost use Rattle.op_desk.specs.Built.{is_built_refusal, is_built_reply, is_built_task};
 ghost use Rattle.op_desk.specs.Spelling.{Stands, history_of};
 ghost use Rattle.op_desk.specs.Wallets.{IsSound, Handles};
 ghost use Rattle.op_model.specs.History.{moment_of_turn};
 ghost use Rattle.op_model.specs.Legal.{is_proper};
 ghost use Rattle.op_model.specs.declared.act.Entry.{Entry};
-ghost use Rattle.op_model.specs.Meant.{meant_so_far};
-ghost use Rattle.op_model.specs.Printed.{is_built, is_built_refusal, printed};
+ghost use Rattle.op_session.specs.Built.{meant_so_far};
+ghost use Rattle.op_model.specs.Printed.{printed};
 ghost use Rattle.op_model.specs.Round.{refusal_reply};
 ghost use Rattle.op_model.specs.Verdicts.{verdict_of};
 ghost use Rattle.op_model.specs.declared.request.Task.TheVariants.{Ask};
@@ -24,10 +24,11 @@ ghost use Rattle.op_cli.specs.Told.{world_of};
 ghost use Rattle.op_cli.specs.Turns.{here, Turns, Stops, IsFit, Handled, NotHandled, NotStood, Told, NotTold, NotWritten, Replies, ReplyFails, RefusalEnds, Unread};
 
 use crate::outside::Outside;
-use op_api::{ApiFault, disk_fault_reply, journal_full_reply, prepare};
+use crate::built::prepare_built;
+use op_api::{ApiFault, disk_fault_reply, journal_full_reply};
 use op_desk::{Batch, Desk, RoundFault};
 use op_disk::Disk;
-use op_http::{HttpFault, RawRequest, Reader, write_all};
+use op_http::{HttpFault, RawRequest, Reader, RouteTable, write_all};
 use op_model::{Refusal, Reply, Request, Task, Verdict, Word};
 use op_ports::{Clock, Sink, Source, Verifier, Words};
 use op_pricing::{FeeRule, PriceHook};
@@ -55,7 +56,7 @@ fn write_last<K: Sink>(sink: &mut K, text: &[u8], end: End) -> End
 /// The bytes of a reply. `None` where memory was wanting.
 fn text_of(alloc: Global, reply: Reply) -> Option<Vec<u8>>
     requires origin { IsUtf8 reply.origin }
-    requires built { IsTrue (is_built reply.body) }
+    requires built { IsTrue (is_built_reply reply.body) }
     ensures { IfSome result (λ text. text.items ≡ printed reply) }
 {
     match print_reply(alloc, &reply) {
@@ -251,6 +252,7 @@ fn refuse_one<K: Sink>(
 /// Answers a request, and writes its reply.
 fn answer_one<D: Disk, K: Sink, V: Verifier, F: FeeRule>(
     alloc: Global,
+    table: &RouteTable,
     raw: &RawRequest,
     verifier: &V,
     answer: u64,
@@ -273,7 +275,7 @@ fn answer_one<D: Disk, K: Sink, V: Verifier, F: FeeRule>(
     ensures write_cause { result ≡ Err WriteFault → Rose (K.faults sink.old) (K.faults sink.new) }
     ensures write_kept { result ≢ Err WriteFault → K.faults sink.new ≡ K.faults sink.old }
 {
-    match prepare(alloc, raw, verifier) {
+    match prepare_built(alloc, table, raw, verifier) {
         Ok((request, verdict)) => {
             run_request(
                 alloc, request, verdict, answer, word, hook, desk, disk, sink,
@@ -306,6 +308,7 @@ fn unread<K: Sink>(alloc: Global, fault: HttpFault, desk: &Desk, sink: &mut K) -
 /// Asks the clock, draws a word, and answers a request.
 fn reply_to<D: Disk, S: Source, K: Sink, C: Clock, W: Words, V: Verifier, F: FeeRule>(
     alloc: Global,
+    table: &RouteTable,
     raw: &RawRequest,
     desk: &mut Desk,
     outside: &mut Outside<D, S, K, C, W, V, F>,
@@ -332,6 +335,7 @@ fn reply_to<D: Disk, S: Source, K: Sink, C: Clock, W: Words, V: Verifier, F: Fee
     match outside.draws.draw() {
         Ok(word) => answer_one(
             alloc,
+            table,
             raw,
             &outside.verifier,
             answer,
@@ -348,6 +352,7 @@ fn reply_to<D: Disk, S: Source, K: Sink, C: Clock, W: Words, V: Verifier, F: Fee
 /// One turn.
 fn turn<D: Disk, S: Source, K: Sink, C: Clock, W: Words, V: Verifier, F: FeeRule>(
     alloc: Global,
+    table: &RouteTable,
     reader: &mut Reader,
     desk: &mut Desk,
     outside: &mut Outside<D, S, K, C, W, V, F>,
@@ -373,13 +378,14 @@ fn turn<D: Disk, S: Source, K: Sink, C: Clock, W: Words, V: Verifier, F: FeeRule
     ensures draw_kept { result ≢ Err WordsFault → W.faults outside.new.draws ≡ W.faults outside.old.draws }
 {
     match reader.next(alloc, &mut outside.source) {
-        Ok(Some(raw)) => reply_to(alloc, &raw, desk, outside),
+        Ok(Some(raw)) => reply_to(alloc, table, &raw, desk, outside),
         Ok(None) => Err(End::Done),
         Err(fault) => Err(unread(alloc, fault, desk, &mut outside.sink)),
     }
 }
 
-/// A session over the history of a desk: requests are answered in order, until it ends.
+/// A session over the history of a desk: requests are answered in order, until it ends. The table of routes is made at
+/// its start, once.
 pub fn session<D: Disk, S: Source, K: Sink, C: Clock, W: Words, V: Verifier, F: FeeRule>(
     alloc: Global,
     mut desk: Desk,
@@ -399,9 +405,12 @@ pub fn session<D: Disk, S: Source, K: Sink, C: Clock, W: Words, V: Verifier, F: 
     ensures draw_cause { result ≡ WordsFault → Rose (W.faults outside.old.draws) (W.faults outside.new.draws) }
     ensures draw_kept { result ≢ WordsFault → W.faults outside.new.draws ≡ W.faults outside.old.draws }
 {
+    let Ok(table) = RouteTable::new(alloc) else {
+        return End::OutOfMemory;
+    };
     let mut reader = Reader::new(alloc);
     for _answered in 0..TURN_LIMIT {
-        match turn(alloc, &mut reader, &mut desk, outside) {
+        match turn(alloc, &table, &mut reader, &mut desk, outside) {
             Ok(()) => {}
             Err(end) => return end,
         }

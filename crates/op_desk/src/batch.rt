@@ -3,11 +3,10 @@ ghost use Rattle.std.specs.Int.{w32, to_be_bytes};
 ghost use Rattle.std.specs.Prelude.{◌≡◌, ◌+◌, ◌-◌, ◌^◌, ◌∷◌, drop, ◌<◌, ◌≤◌, ◌↔◌, [], ℕ, List, true, false, length, replicate, slice_set, IsTrue, vec_len, vec_capacity, Some, slice_get, OnOk, ◌++◌};
 ghost use Rattle.op_model.specs.History.{last_moment, origin_of, with_act};
 ghost use Rattle.op_model.specs.Legal.{is_proper};
-ghost use Rattle.op_model.specs.Printed as printed;
 ghost use Rattle.op_desk.specs.Batches.{BatchValue, history_in};
 ghost use Rattle.op_journal.specs.Commits.{IsBody, payload_of};
 ghost use Rattle.op_desk.specs.Spelling.{records, HaveRecords};
-ghost use Rattle.op_desk.specs.Built.{is_built, is_built_task};
+ghost use Rattle.op_desk.specs.Built.{is_built, is_built_reply, is_built_task};
 ghost use Rattle.op_record.specs.Cuts.{HasRecord};
 ghost use Rattle.std.specs.Option.{option_to_list, ForSome};
 ghost use Rattle.op_desk.specs.Wallets.{WalletValue, IsSound, Handles, with_entry};
@@ -180,7 +179,7 @@ impl Batch {
         ensures used { self.new.used ≡ slice_set self.old.used index true }
         ensures begun { (self.new.begun ≡ self.old.begun) × (self.new.moment ≡ self.old.moment) }
         ensures origin { result.origin ≡ origin_of (history_in self.new) }
-        ensures printed { IsTrue (printed.is_built result.body) }
+        ensures printed { IsTrue (is_built_reply result.body) }
     {
         self.places[index as usize] = self.wallet.count() - self.begun;
         self.used[index as usize] = true;

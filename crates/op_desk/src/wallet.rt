@@ -5,7 +5,6 @@ ghost use Rattle.op_amount.specs.Code.{is_asset_code};
 ghost use Rattle.op_model.specs.History.{last_moment, origin_of};
 ghost use Rattle.op_model.specs.Legal.{is_proper, keeps_forms};
 ghost use Rattle.op_time.specs.declared.TheConstants.{LAST};
-ghost use Rattle.op_model.specs.Printed as printed;
 ghost use Rattle.op_model.specs.Round.{refusal_reply};
 ghost use Rattle.op_model.specs.declared.act.Act.TheVariants.{AssetAdded};
 ghost use Rattle.op_model.specs.declared.request.Request.TheVariants.{AddAsset};
@@ -13,7 +12,7 @@ ghost use Rattle.op_model.specs.declared.request.Task.TheVariants.{Ask};
 ghost use Rattle.op_model.specs.declared.request.Verdict.{Verdict};
 ghost use Rattle.op_record.specs.Cuts.{HasRecord};
 ghost use Rattle.op_desk.specs.Answers.{adds, may_add, reply_with};
-ghost use Rattle.op_desk.specs.Built.{is_built, is_built_task};
+ghost use Rattle.op_desk.specs.Built.{is_built, is_built_reply, is_built_task};
 ghost use Rattle.op_desk.specs.Wallets.{WalletValue, IsSound, IsTaken, Handles, with_entry};
 
 use crate::LoadFault;
@@ -264,7 +263,7 @@ impl Wallet {
         ensures entry { self.new.history ≡ with_entry self.old.history result.entry }
         ensures recorded { IfSome result.entry (λ e. (e.at ≡ t) × HasRecord e × IsTrue (is_built e.act)) }
         ensures origin { result.reply.origin ≡ origin_of self.new.history }
-        ensures printed { IsTrue (printed.is_built result.reply.body) }
+        ensures printed { IsTrue (is_built_reply result.reply.body) }
         ensures sound { IsSound self.new.history }
         ensures spare { self.old.spare ≤ self.new.spare + 1 }
     {
@@ -303,7 +302,7 @@ impl Wallet {
         ensures entry { self.new.history ≡ with_entry self.old.history result.entry }
         ensures recorded { IfSome result.entry (λ e. (e.at ≡ t) × HasRecord e × IsTrue (is_built e.act)) }
         ensures origin { result.reply.origin ≡ origin_of self.new.history }
-        ensures printed { IsTrue (printed.is_built result.reply.body) }
+        ensures printed { IsTrue (is_built_reply result.reply.body) }
         ensures spare { self.old.spare ≤ self.new.spare + 1 }
         ensures sound { IsSound self.new.history }
     {

@@ -53,7 +53,7 @@ use Rattle.op_model.specs.declared.request.Task.TheVariants.{Ask, Step, Expire, 
 use Rattle.op_model.specs.declared.request.Verdict.{Verdict}
 use Rattle.op_model.specs.declared.row.IncomingRow.{IncomingRow}
 use Rattle.op_model.proofs.LegalNext.{legal_from-split}
-use Rattle.op_legal.specs.Numbers.{HasAsset, HasAddress, HasIncoming, HasOutgoing, HasGrant, HasAccount, LimitsNameMade, ItemNamesMade, NamesMade, AnswersNameMade, EntriesNameMade}
+use Rattle.op_legal.specs.Numbers.{HasAsset, HasAddress, HasIncoming, HasQuote, HasOutgoing, HasGrant, HasAccount, LimitsNameMade, ItemNamesMade, NamesMade, AnswersNameMade, EntriesNameMade}
 use Rattle.op_legal.proofs.Admin.{new_transfer_of}
 use Rattle.op_legal.proofs.Callers.{caller_is}
 use Rattle.op_legal.proofs.Chains.{act_in, outcome_act, none_is_not, some_is, past_refusal, past_want, past_step, within_want, within_refusal, within_step, ok_is}
@@ -102,11 +102,11 @@ meant_there history false name asset account h = account_there history name asse
 
 -- ---- the provider's acts
 
-adds_address : (history : List Entry) (path : List ℕ) (asset : Asset) (name : Option (List ℕ)) (act : Act) → act_in (admin.add_address history path asset name) ≡ Some act → NamesMade history act
-adds_address history path asset name act made =
+pub adds_address : (Q : Act → Type 0) (history : List Entry) (path : List ℕ) (asset : Asset) (name : Option (List ℕ)) (act : Act) → ((n : ℕ) → HasAsset history n → Q (acts.AddressAdded path n name)) → act_in (admin.add_address history path asset name) ≡ Some act → Q act
+adds_address Q history path asset name act each made =
     let want = past_want (asset_number history asset) NotFound _ act made in
     let past = past_refusal (is_some (path_number history path)) AlreadyExists (λ _. Ok (Some (acts.AddressAdded path want.0 name))) act want.2 in
-    subst (NamesMade history) (some_is (acts.AddressAdded path want.0 name) act past.1) (asset_there history asset want.0 want.1)
+    subst Q (some_is (acts.AddressAdded path want.0 name) act past.1) (each want.0 (asset_there history asset want.0 want.1))
 
 sets_rate : (history : List Entry) (source target : Asset) (rate : Rate) (act : Act) → act_in (admin.set_rate history source target rate) ≡ Some act → NamesMade history act
 sets_rate history source target rate act made =
@@ -119,10 +119,10 @@ transferred : (history : List Entry) (deposit : Bool) (id : List ℕ) (account :
 transferred history true id account value h = h
 transferred history false id account value h = h
 
-moves_money : (history : List Entry) (deposit : Bool) (id : List ℕ) (name : AccountName) (amount : Amount) (act : Act) → act_in (admin.move_money history deposit id name amount) ≡ Some act → NamesMade history act
-moves_money history deposit id name amount act made =
+pub moves_money : (Q : Act → Type 0) (history : List Entry) (deposit : Bool) (id : List ℕ) (name : AccountName) (amount : Amount) (act : Act) → ((account : Account) → account_meant history deposit name amount.asset ≡ Some account → Q (transfer_act deposit id account amount.value)) → act_in (admin.move_money history deposit id name amount) ≡ Some act → Q act
+moves_money Q history deposit id name amount act each made =
     let new = new_transfer_of history deposit id name amount act made in
-    subst (NamesMade history) (sym new.is) (transferred history deposit id new.account amount.value (meant_there history deposit name amount.asset new.account new.meant))
+    subst Q (sym new.is) (each new.account new.meant)
 
 -- a number whose row is there, of which an act is made
 made_of : (P : ℕ → Type 0) (Q : Act → Type 0) (make : ℕ → Act) (n : Option ℕ) (act : Act) → ((k : ℕ) → n ≡ Some k → Q (make k)) → option_map make n ≡ Some act → Q act
@@ -229,20 +229,20 @@ items_made history (x ∷ xs) h =
     let own = either_false (is_strange x.identifier (address_asked history x.identifier)) (option_map_or (has_strange_limits history) x.limits false) parts.0 in
     (record { identifier = identifier_made history x.identifier; limits = limits_made history x.limits own.1 }, items_made history xs parts.1)
 
-asks_grant : (history : List Entry) (word : List ℕ) (asked : List AskedItem) (client : Option (List ℕ)) (interact : Interact) (verdict : Verdict) (act : Act) → act_in (ask_grant history word asked client interact verdict) ≡ Some act → NamesMade history act
-asks_grant history word asked client interact verdict act made =
+pub asks_grant : (Q : Act → Type 0) (history : List Entry) (word : List ℕ) (asked : List AskedItem) (client : Option (List ℕ)) (interact : Interact) (verdict : Verdict) (act : Act) → ((name : List ℕ) → list_any (is_strange_item history) asked ≡ false → Q (grant_act (items_asked history asked) interact word name)) → act_in (ask_grant history word asked client interact verdict) ≡ Some act → Q act
+asks_grant Q history word asked client interact verdict act each made =
     let items = items_asked history asked in
     let proof = past_refusal (not (verdict.proved && is_some verdict.client)) InvalidClient _ act made in
     let name = past_want client InvalidClient _ act proof.1 in
     let own = past_refusal (not (is_same_client verdict.client name.0)) InvalidClient _ act name.2 in
     let passing = past_refusal (list_any is_outgoing items && not (is_redirect interact)) InvalidInteraction _ act own.1 in
     let known = past_refusal (list_any (is_strange_item history) asked) RequestDenied (λ _. Ok (Some (grant_act items interact word name.0))) act passing.1 in
-    subst (NamesMade history) (some_is (grant_act items interact word name.0) act known.1) (items_made history asked known.0)
+    subst Q (some_is (grant_act items interact word name.0) act known.1) (each name.0 known.0)
 
 -- ---- payments
 
-makes_incoming : (history : List Entry) (t : ℕ) (name : Option AddressName) (amount : Option Amount) (expiry : Option ℕ) (metadata : Option (List ℕ)) (verdict : Verdict) (act : Act) → act_in (make_incoming history t name amount expiry metadata verdict) ≡ Some act → NamesMade history act
-makes_incoming history t name amount expiry metadata verdict act made =
+pub makes_incoming : (Q : Act → Type 0) (history : List Entry) (t : ℕ) (name : Option AddressName) (amount : Option Amount) (expiry : Option ℕ) (metadata : Option (List ℕ)) (verdict : Verdict) (act : Act) → ((g n : ℕ) (value : Option ℕ) (ends : ℕ) → HasGrant history g → HasAddress history n → Q (acts.IncomingMade g n value ends metadata)) → act_in (make_incoming history t name amount expiry metadata verdict) ≡ Some act → Q act
+makes_incoming Q history t name amount expiry metadata verdict act each made =
     let who = past_step (caller history t verdict) _ act made in
     let address = address_named history name in
     let may = past_step (access history t verdict who.0 (looks_at_address actions.incoming_payment actions.create address)) _ act who.2 in
@@ -250,25 +250,25 @@ makes_incoming history t name amount expiry metadata verdict act made =
     let known = past_refusal (option_map_or (is_strange_amount history) amount false) NotFound _ act there.2 in
     let act_is : Act = acts.IncomingMade who.0.grant there.0 (option_map (λ a. a.value) amount) (expiry_of t expiry) metadata in
     let past = past_step (incoming_refusals t (asset_of_address history there.0) amount (expiry_of t expiry)) (λ _. Ok (Some act_is)) act known.1 in
-    subst (NamesMade history) (some_is act_is act past.2) (grant_there history t verdict who.0 who.1, address_there history name there.0 there.1)
+    subst Q (some_is act_is act past.2) (each who.0.grant there.0 (option_map (λ a. a.value) amount) (expiry_of t expiry) (grant_there history t verdict who.0 who.1) (address_there history name there.0 there.1))
 
-completes_incoming : (history : List Entry) (t : ℕ) (incoming : Option ℕ) (verdict : Verdict) (act : Act) → act_in (complete_incoming history t incoming verdict) ≡ Some act → NamesMade history act
-completes_incoming history t incoming verdict act made =
+pub completes_incoming : (Q : Act → Type 0) (history : List Entry) (t : ℕ) (incoming : Option ℕ) (verdict : Verdict) (act : Act) → ((g i : ℕ) → HasGrant history g → incoming ≡ Some i → HasIncoming history i → Q (acts.IncomingCompleted g i)) → act_in (complete_incoming history t incoming verdict) ≡ Some act → Q act
+completes_incoming Q history t incoming verdict act each made =
     let who = past_step (caller history t verdict) _ act made in
     let it = found (incoming_row history) incoming in
     let may = past_step (access history t verdict who.0 (looks_at_row history actions.incoming_payment actions.complete 0 (option_map (λ (x : Found IncomingRow). incoming_place x.row) it))) _ act who.2 in
     let there = past_want it NotFound _ act may.2 in
     let past = past_refusal (not (is_open history there.0.number there.0.row t)) AlreadyClosed (λ _. Ok (Some (acts.IncomingCompleted who.0.grant there.0.number))) act there.2 in
-    subst (NamesMade history) (some_is (acts.IncomingCompleted who.0.grant there.0.number) act past.1)
-    (grant_there history t verdict who.0 who.1, ap is_some (found_there (incoming_row history) incoming there.0 there.1).1)
+    let at = found_there (incoming_row history) incoming there.0 there.1 in
+    subst Q (some_is (acts.IncomingCompleted who.0.grant there.0.number) act past.1) (each who.0.grant there.0.number (grant_there history t verdict who.0 who.1) at.0 (ap is_some at.1))
 
 -- what a quote's price begins with
-record QuotesMade (history : List Entry) (q : QuotePricing) : Type 0 where
-  grant : HasGrant history q.grant
-  address : HasAddress history q.address
-  incoming : HasIncoming history q.incoming
+pub record QuotesMade (history : List Entry) (q : QuotePricing) : Type 0 where
+  pub grant : HasGrant history q.grant
+  pub address : HasAddress history q.address
+  pub incoming : HasIncoming history q.incoming
 
-quotes_made : (history : List Entry) (t : ℕ) (name : Option AddressName) (receiver : Option RowName) (asked : QuoteAsked) (verdict : Verdict) (q : QuotePricing) → quote_pricing history t name receiver asked verdict ≡ Ok q → QuotesMade history q
+pub quotes_made : (history : List Entry) (t : ℕ) (name : Option AddressName) (receiver : Option RowName) (asked : QuoteAsked) (verdict : Verdict) (q : QuotePricing) → quote_pricing history t name receiver asked verdict ≡ Ok q → QuotesMade history q
 quotes_made history t name receiver asked verdict q h =
     let who = within_step (caller history t verdict) _ q h in
     let address = address_named history name in
@@ -286,15 +286,14 @@ quotes_made history t name receiver asked verdict q h =
     subst (QuotesMade history) (ok_is made q rate.2)
     (record { grant = grant_there history t verdict who.0 who.1; address = address_there history name n there.1; incoming = receiver_is_there history receiver it named.1 })
 
-makes_quote : (history : List Entry) (t fee : ℕ) (name : Option AddressName) (receiver : Option RowName) (asked : QuoteAsked) (verdict : Verdict) (act : Act) → act_in (make_quote history t fee name receiver asked verdict) ≡ Some act → NamesMade history act
-makes_quote history t fee name receiver asked verdict act made =
+pub makes_quote : (Q : Act → Type 0) (history : List Entry) (t fee : ℕ) (name : Option AddressName) (receiver : Option RowName) (asked : QuoteAsked) (verdict : Verdict) (act : Act) → ((q : QuotePricing) (price : Priced) → quote_pricing history t name receiver asked verdict ≡ Ok q → priced fee q.pricing ≡ Ok price → Q (quote_act q price)) → act_in (make_quote history t fee name receiver asked verdict) ≡ Some act → Q act
+makes_quote Q history t fee name receiver asked verdict act each made =
     let q = past_step (quote_pricing history t name receiver asked verdict) _ act made in
     let price = past_step (priced fee q.0.pricing) (λ (x : Priced). Ok (Some (quote_act q.0 x))) act q.2 in
-    let are = quotes_made history t name receiver asked verdict q.0 q.1 in
-    subst (NamesMade history) (some_is (quote_act q.0 price.0) act price.2) (are.grant, are.address, are.incoming)
+    subst Q (some_is (quote_act q.0 price.0) act price.2) (each q.0 price.0 q.1 price.1)
 
-pays_quote : (history : List Entry) (t : ℕ) (name : Option AddressName) (quote : Option RowName) (metadata : Option (List ℕ)) (verdict : Verdict) (act : Act) → act_in (pay_quote history t name quote metadata verdict) ≡ Some act → NamesMade history act
-pays_quote history t name quote metadata verdict act made =
+pub pays_quote : (Q : Act → Type 0) (history : List Entry) (t : ℕ) (name : Option AddressName) (quote : Option RowName) (metadata : Option (List ℕ)) (verdict : Verdict) (act : Act) → ((g q : ℕ) → HasGrant history g → HasQuote history q → Q (acts.OutgoingMade g q metadata)) → act_in (pay_quote history t name quote metadata verdict) ≡ Some act → Q act
+pays_quote Q history t name quote metadata verdict act each made =
     let who = past_step (caller history t verdict) _ act made in
     let address = address_named history name in
     let quoted = found (quote_row history) (row_named history kinds.Quote quote) in
@@ -304,11 +303,11 @@ pays_quote history t name quote metadata verdict act made =
     let payer = past_refusal (not (row.0.row.terms.payer == there.0)) NotFound _ act row.2 in
     let unpaid = past_refusal (is_paid history row.0.number) QuoteUsed _ act payer.1 in
     let past = past_refusal (nat_le row.0.row.expiry t) QuoteExpired (λ _. Ok (Some (acts.OutgoingMade who.0.grant row.0.number metadata))) act unpaid.1 in
-    subst (NamesMade history) (some_is (acts.OutgoingMade who.0.grant row.0.number metadata) act past.1)
-    (grant_there history t verdict who.0 who.1, ap is_some (found_there (quote_row history) (row_named history kinds.Quote quote) row.0 row.1).1)
+    subst Q (some_is (acts.OutgoingMade who.0.grant row.0.number metadata) act past.1)
+    (each who.0.grant row.0.number (grant_there history t verdict who.0 who.1) (ap is_some (found_there (quote_row history) (row_named history kinds.Quote quote) row.0 row.1).1))
 
-pays_directly : (history : List Entry) (t fee : ℕ) (name : Option AddressName) (receiver : Option RowName) (debit : Amount) (metadata : Option (List ℕ)) (verdict : Verdict) (act : Act) → act_in (pay_directly history t fee name receiver debit metadata verdict) ≡ Some act → NamesMade history act
-pays_directly history t fee name receiver debit metadata verdict act made =
+pub pays_directly : (Q : Act → Type 0) (history : List Entry) (t fee : ℕ) (name : Option AddressName) (receiver : Option RowName) (debit : Amount) (metadata : Option (List ℕ)) (verdict : Verdict) (act : Act) → ((g n : ℕ) (it : Found IncomingRow) (price : Priced) → HasGrant history g → HasAddress history n → incoming_row history it.number ≡ Some it.row → direct_price history fee debit n it ≡ Ok price → Q (direct_act g n it.number price metadata)) → act_in (pay_directly history t fee name receiver debit metadata verdict) ≡ Some act → Q act
+pays_directly Q history t fee name receiver debit metadata verdict act each made =
     let who = past_step (caller history t verdict) _ act made in
     let address = address_named history name in
     let incoming = receiver_named history receiver in
@@ -318,8 +317,8 @@ pays_directly history t fee name receiver debit metadata verdict act made =
     let known = past_refusal (is_strange_amount history debit) NotFound _ act named.2 in
     let opened = past_refusal (not (is_open history named.0.number named.0.row t)) ReceiverClosed _ act known.1 in
     let price = past_step (direct_price history fee debit there.0 named.0) (λ (x : Priced). Ok (Some (direct_act who.0.grant there.0 named.0.number x metadata))) act opened.1 in
-    subst (NamesMade history) (some_is (direct_act who.0.grant there.0 named.0.number price.0 metadata) act price.2)
-    (grant_there history t verdict who.0 who.1, address_there history name there.0 there.1, receiver_is_there history receiver named.0 named.1)
+    subst Q (some_is (direct_act who.0.grant there.0 named.0.number price.0 metadata) act price.2)
+    (each who.0.grant there.0 named.0 price.0 (grant_there history t verdict who.0 who.1) (address_there history name there.0 there.1) (found_there (incoming_row history) (row_named history kinds.Incoming receiver) named.0 named.1).1 price.1)
 
 -- ---- all requests
 
@@ -331,29 +330,33 @@ request_names history t word fee (requests.AddAsset asset pieces) verdict act ma
     let past = past_refusal (is_some (asset_number history asset)) AlreadyExists (λ _. Ok (Some (acts.AssetAdded asset.code asset.scale pieces))) act made in
     subst (NamesMade history) (some_is (acts.AssetAdded asset.code asset.scale pieces) act past.1) tt
 request_names history t word fee (requests.InspectAsset asset) verdict act made = reads_asset history asset act made
-request_names history t word fee (requests.AddAddress path asset name) verdict act made = adds_address history path asset name act made
+request_names history t word fee (requests.AddAddress path asset name) verdict act made = adds_address (NamesMade history) history path asset name act (λ n there. there) made
 request_names history t word fee (requests.InspectAddress address) verdict act made = reads_address history address act made
-request_names history t word fee (requests.Deposit id name amount) verdict act made = moves_money history true id name amount act made
-request_names history t word fee (requests.Withdraw id name amount) verdict act made = moves_money history false id name amount act made
+request_names history t word fee (requests.Deposit id name amount) verdict act made =
+    moves_money (NamesMade history) history true id name amount act (λ account meant. transferred history true id account amount.value (meant_there history true name amount.asset account meant)) made
+request_names history t word fee (requests.Withdraw id name amount) verdict act made =
+    moves_money (NamesMade history) history false id name amount act (λ account meant. transferred history false id account amount.value (meant_there history false name amount.asset account meant)) made
 request_names history t word fee (requests.SetRate source target rate) verdict act made = sets_rate history source target rate act made
 request_names history t word fee (requests.AcceptGrant grant) verdict act made = decides history (λ g. acts.GrantAccepted g word) grant act (λ k h. h) made
 request_names history t word fee (requests.RejectGrant grant) verdict act made = decides history (λ g. acts.GrantRejected g word) grant act (λ k h. h) made
 request_names history t word fee (requests.InspectOutgoing payment) verdict act made = reads_payment history payment act made
 request_names history t word fee (requests.CancelOutgoing payment) verdict act made = cancels_payment history payment act made
 request_names history t word fee (requests.ReadAddress path) verdict act made = shows_address history path act made
-request_names history t word fee (requests.AskGrant items client interact) verdict act made = asks_grant history word items client interact verdict act made
+request_names history t word fee (requests.AskGrant items client interact) verdict act made = asks_grant (NamesMade history) history word items client interact verdict act (λ name known. items_made history items known) made
 request_names history t word fee (requests.ContinueGrant grant reference) verdict act made = continues history t word grant reference verdict act made
 request_names history t word fee (requests.CancelGrant grant) verdict act made = cancels_grant history grant verdict act made
 request_names history t word fee (requests.RotateToken grant) verdict act made = changes_token history (λ g. acts.TokenRotated g word) grant verdict act (λ k h. h) made
 request_names history t word fee (requests.RevokeToken grant) verdict act made = changes_token history acts.TokenRevoked grant verdict act (λ k h. h) made
-request_names history t word fee (requests.MakeIncoming address amount expiry metadata) verdict act made = makes_incoming history t address amount expiry metadata verdict act made
+request_names history t word fee (requests.MakeIncoming address amount expiry metadata) verdict act made = makes_incoming (NamesMade history) history t address amount expiry metadata verdict act (λ g n value ends grant there. (grant, there)) made
 request_names history t word fee (requests.ListIncomings address first cursor) verdict act made = lists_rows history t actions.incoming_payment address verdict act made
 request_names history t word fee (requests.ReadIncoming incoming) verdict act made = reads_row history t actions.incoming_payment (option_map incoming_place (option_and_then (incoming_row history) incoming)) verdict act made
-request_names history t word fee (requests.CompleteIncoming incoming) verdict act made = completes_incoming history t incoming verdict act made
-request_names history t word fee (requests.MakeQuote address receiver asked) verdict act made = makes_quote history t fee address receiver asked verdict act made
+request_names history t word fee (requests.CompleteIncoming incoming) verdict act made = completes_incoming (NamesMade history) history t incoming verdict act (λ g i grant is there. (grant, there)) made
+request_names history t word fee (requests.MakeQuote address receiver asked) verdict act made =
+    makes_quote (NamesMade history) history t fee address receiver asked verdict act (λ q price is priced. let are = quotes_made history t address receiver asked verdict q is in (are.grant, are.address, are.incoming)) made
 request_names history t word fee (requests.ReadQuote quote) verdict act made = reads_row history t actions.quote (option_map quote_place (option_and_then (quote_row history) quote)) verdict act made
-request_names history t word fee (requests.MakeOutgoing address (Quoted quote) metadata) verdict act made = pays_quote history t address quote metadata verdict act made
-request_names history t word fee (requests.MakeOutgoing address (Direct receiver debit) metadata) verdict act made = pays_directly history t fee address receiver debit metadata verdict act made
+request_names history t word fee (requests.MakeOutgoing address (Quoted quote) metadata) verdict act made = pays_quote (NamesMade history) history t address quote metadata verdict act (λ g q grant there. (grant, there)) made
+request_names history t word fee (requests.MakeOutgoing address (Direct receiver debit) metadata) verdict act made =
+    pays_directly (NamesMade history) history t fee address receiver debit metadata verdict act (λ g n it price grant there incoming is. (grant, there, ap is_some incoming)) made
 request_names history t word fee (requests.ListOutgoings address first cursor) verdict act made = lists_rows history t actions.outgoing_payment address verdict act made
 request_names history t word fee (requests.ReadOutgoing outgoing) verdict act made = reads_row history t actions.outgoing_payment (option_map outgoing_place (option_and_then (outgoing_row history) outgoing)) verdict act made
 request_names history t word fee (requests.ReadFeed address page) verdict act made = lists_rows history t actions.outgoing_payment address verdict act made

@@ -50,7 +50,7 @@ kept_price false true over room p price h = absurd (let e : Err faults.TooSmall 
 kept_price false false true room p price h = absurd (let e : Err (faults.OverReceiver room) ≡ Ok price = h in cc)
 kept_price false false false room p price h = let e : Ok p ≡ Ok price = h in cc
 
-priced_ok : (result : Result Priced PriceFault) (price : Priced) → or_price_refusal result ≡ Ok price → result ≡ Ok price
+pub priced_ok : (result : Result Priced PriceFault) (price : Priced) → or_price_refusal result ≡ Ok price → result ≡ Ok price
 priced_ok (Ok p) price h = ap (λ (x : Priced). Ok x) (ok_is p price h)
 priced_ok (Err fault) price h = absurd (let e : Err (price_refusal fault) ≡ Ok price = h in cc)
 

@@ -90,7 +90,7 @@ pub payment_unnamed : (history : List Entry) (p : ℕ) → IsLegal history → i
 payment_unnamed history p legal none =
     unnamed (is_step p) (λ h. is_some (outgoing_row h p)) (record { stays = λ h e there. outgoing_stays h (e ∷ []) p there; named = λ h act is made. step_named h act p is made }) history legal none
 
-grant_made : (history : List Entry) (g : ℕ) → is_some (grant_row history g) ≡ is_some (nth (grants_made history) g)
+pub grant_made : (history : List Entry) (g : ℕ) → is_some (grant_row history g) ≡ is_some (nth (grants_made history) g)
 grant_made history g = ap is_some (nth-numbered (grant_so_far history) (grants_made history) g) ∙ some_mapped (λ (m : GrantMade). grant_so_far history (g, m)) (nth (grants_made history) g)
 
 pub grant_stays_there : (history : List Entry) (e : Entry) (g : ℕ) → is_some (grant_row history g) ≡ true → is_some (grant_row (history ++ e ∷ []) g) ≡ true

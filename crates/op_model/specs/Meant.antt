@@ -1,5 +1,5 @@
 -- What a request as it came means: a request of the wallet, or its refusal.
-use Rattle.std.specs.Prelude.{ℕ, Bool, true, false, if◌then◌else◌, List, Ok, Err}
+use Rattle.std.specs.Prelude.{ℕ, List, Ok, Err}
 use Rattle.std.specs.declared.result.Result.{Result}
 use Rattle.op_names.specs.declared.Kind.TheVariants.{Incoming, Quote, Outgoing, Grant, Address}
 use Rattle.op_model.specs.Asking.{◌>>=◌}
@@ -10,7 +10,6 @@ use Rattle.op_model.specs.Parameters.{number_named, asset_named, list_parameters
 use Rattle.op_model.specs.Requests.{Raw}
 use Rattle.op_model.specs.RouteTable.{Route, route_of}
 use Rattle.op_model.specs.declared.reply.Refusal.{Refusal}
-use Rattle.op_model.specs.declared.reply.Refusal.TheVariants.{NotFound}
 use Rattle.op_model.specs.declared.request.Request.{Request}
 use Rattle.op_model.specs.declared.request.Request.TheVariants as requests
 use Rattle.op_model.specs.declared.route.Route.TheVariants as routes
@@ -49,15 +48,3 @@ asked_of routes.ReadFeed target body = read_feed_parameters target
 -- the request that is meant, or its refusal
 abbrev pub meant : Raw → Result Request Refusal
 meant raw = route_of raw.method raw.target >>= (λ route. asked_of route raw.target raw.body)
-
--- ---- while not every route is built: one that is not is not found
-
-abbrev pub is_built : Route → Bool
-is_built routes.AddAsset = true
-is_built _ = false
-
-abbrev pub asked_if_built : Raw → Route → Result Request Refusal
-asked_if_built raw route = if is_built route then asked_of route raw.target raw.body else Err NotFound
-
-abbrev pub meant_so_far : Raw → Result Request Refusal
-meant_so_far raw = route_of raw.method raw.target >>= asked_if_built raw

@@ -1,8 +1,7 @@
 -- Replies as bytes: status, fields and body (RFC 9112, sections 4 to 6; RFC 9110, section 15).
-use Rattle.std.specs.Prelude.{ℕ, Bool, true, false, List, [], ◌∷◌, ◌++◌, length, codes, Some, None, option_map, unwrap_or}
+use Rattle.std.specs.Prelude.{ℕ, List, [], ◌∷◌, ◌++◌, length, codes, Some, None, option_map, unwrap_or}
 use Rattle.std.specs.Option.{option_map_or}
 use Rattle.std.specs.Fmt.{decimal}
-use Rattle.std.specs.Str.{is_utf8}
 use Rattle.std.specs.declared.option.Option.{Option}
 use Rattle.op_model.specs.Bodies as bodies
 use Rattle.op_model.specs.History.{nth}
@@ -185,23 +184,3 @@ said_text what = message what.status what.allow what.challenge (option_map compa
 
 abbrev pub printed : Reply → List ℕ
 printed reply = option_map_or said_text (said reply.origin reply.body) []
-
--- ---- what is printed so far
-
-abbrev pub is_built_refusal : Refusal → Bool
-is_built_refusal (refusals.BadHttp at) = true
-is_built_refusal (refusals.LengthRequired at) = true
-is_built_refusal (refusals.RequestTooLarge at) = true
-is_built_refusal refusals.NotFound = true
-is_built_refusal (refusals.MethodNotAllowed allow) = true
-is_built_refusal refusals.BadJson = true
-is_built_refusal (refusals.BadField name) = is_utf8 name
-is_built_refusal refusals.AlreadyExists = true
-is_built_refusal refusals.Memory = true
-is_built_refusal _ = false
-
--- the reply's form is built
-abbrev pub is_built : ReplyBody → Bool
-is_built (replies.AssetAdded asset pieces) = true
-is_built (replies.Refused refusal) = is_built_refusal refusal
-is_built _ = false

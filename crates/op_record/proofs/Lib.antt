@@ -11,6 +11,8 @@ pub mod Many
 pub mod RoundSteps
 pub mod RoundLaws
 pub mod Held
+pub mod Pieces
+pub mod PackedSteps
 pub mod Entries
 pub mod Putting
 pub mod LengthLaws

@@ -97,14 +97,14 @@ records_begin : (bytes : List ℕ) → Begins record_of HasRecord bytes → Begi
 records_begin bytes b = record { entries = b.values; more = b.more; whole = inl (record { some = b.some; have = b.have; is = b.whole }) }
 
 pub records_short : (payload : List ℕ) → BeginsWithout 2 payload → StopsAt None payload Short → IsCutRound payload
-records_short payload other s =
-    (records_begin payload (short_begins entry-field payload (stopped None payload Short s)),
-    λ entries round. let first = of_records payload entries other round in
-    stops_whole entry-field (none_left None) payload Short (stopped None payload Short s) entries first.some first.have first.is)
+records_short payload other s = (
+  records_begin payload (short_begins entry-field payload (stopped None payload Short s)),
+  λ entries round. let first = of_records payload entries other round in
+      stops_whole entry-field (none_left None) payload Short (stopped None payload Short s) entries first.some first.have first.is,
+)
 
 left_at : (payload : List ℕ) (at left : ℕ) → at + left ≡ length payload → IsBadRoundAt payload at → IsLeft payload left
 left_at payload at left sum bad = record { within = omega (arith, sum); bad = subst (λ (n : ℕ). IsBadRoundAt payload n) (omega (arith, sum)) bad }
-
 
 abbrev head_of : List ℕ → ℕ
 head_of [] = 0
@@ -166,7 +166,7 @@ round_short payload rest bytes at two moment s =
     let whole : payload ≡ 2 ∷ (number 8 at ++ bytes) = two ∙ ap (λ (u : List ℕ). 2 ∷ u) t.1 in (
       subst BeginsRound (sym whole) (round_begins at bytes (short_begins field bytes stop)),
       λ entries round. let b = are_behind payload rest bytes at entries t.0 two t.1 round in
-      stops_whole field (none_left (Some at)) bytes Short stop entries b.some b.have b.is,
+          stops_whole field (none_left (Some at)) bytes Short stop entries b.some b.have b.is,
     )
 
 length_front : (at : ℕ) → length (2 ∷ number 8 at) ≡ 9
@@ -213,17 +213,18 @@ moment_begins front e =
         at = x.value;
         have = ((refl, tt, (t.0, lit< tt)), tt);
         is = ap (λ (u : List ℕ). 2 ∷ u) (
-        sym (append_assoc front x.more (act_in entry)) ∙ ap (λ (u : List ℕ). u ++ act_in entry) (t.1 ∙ append-nil (number 8 x.value))
-        ∙ ap (λ (u : List ℕ). number 8 x.value ++ u) (sym (append-nil (act_in entry)))
-        );
+            sym (append_assoc front x.more (act_in entry)) ∙ ap (λ (u : List ℕ). u ++ act_in entry) (t.1 ∙ append-nil (number 8 x.value))
+            ∙ ap (λ (u : List ℕ). number 8 x.value ++ u) (sym (append-nil (act_in entry)))
+            );
       });
     }
 
 pub moment_short : (payload rest : List ℕ) → payload ≡ 2 ∷ rest → moment_at rest ≡ Err Short → IsCutRound payload
-moment_short payload rest two e =
-    (subst BeginsRound (sym two) (moment_begins rest e),
-    λ entries round. let h = behind payload rest entries two round in
-    not_refused moment-field h.at (flat_map act_in entries) rest Short h.low h.is e)
+moment_short payload rest two e = (
+  subst BeginsRound (sym two) (moment_begins rest e),
+  λ entries round. let h = behind payload rest entries two round in
+      not_refused moment-field h.at (flat_map act_in entries) rest Short h.low h.is e,
+)
 
 pub moment_bad : (payload rest : List ℕ) (left : ℕ) → payload ≡ 2 ∷ rest → moment_at rest ≡ Err (Bad left) → IsLeft payload left
 moment_bad payload rest left two e =

@@ -8,5 +8,6 @@ pub mod Rounds
 pub mod Reading
 pub mod RoundReading
 pub mod Packing
+pub mod PackedInside
 pub mod Laws
 pub mod Writing

@@ -7,6 +7,8 @@ mod grants;
 mod laws;
 mod lengths;
 mod packed;
+mod packed_bytes;
+mod packed_reading;
 mod reading;
 mod round_writing;
 mod rounds;
@@ -19,6 +21,7 @@ pub use laws::{
     records_read_back, rounds_are_read_one_way,
 };
 pub use lengths::entry_length;
+pub use packed::Packed;
 pub use reading::read_entry;
 pub use round_writing::{round_length, write_round};
 pub use rounds::read_round;

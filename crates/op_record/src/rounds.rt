@@ -21,11 +21,7 @@ use op_model::Entry;
 use std::alloc::Global;
 
 /// An entry with its moment, or one whose moment was said before.
-fn entry_with(
-    alloc: Global,
-    bytes: &[u8],
-    said: Option<u64>,
-) -> Result<(Entry, &[u8]), ReadError>
+fn entry_with(alloc: Global, bytes: &[u8], said: Option<u64>) -> Result<(Entry, &[u8]), ReadError>
     requires { IfSome said (λ at. at ≤ LAST) }
     ensures { Gives (λ x. (x.0, x.1.now)) result (entry_with said bytes.now) }
 {
@@ -102,11 +98,7 @@ fn read_whole(alloc: Global, payload: &[u8], into: &mut Vec<Entry>) -> Result<()
 /// `Short` where a round begins with the payload and goes on, and the payload is none itself; `Bad { at }` where no round
 /// begins with the bytes up to and with that place, and it is the first such place. A payload whose first byte is 2 is of
 /// version 2, any other of version 1.
-pub fn read_round(
-    alloc: Global,
-    payload: &[u8],
-    into: &mut Vec<Entry>,
-) -> Result<(), RecordFault>
+pub fn read_round(alloc: Global, payload: &[u8], into: &mut Vec<Entry>) -> Result<(), RecordFault>
     ensures read { OnOk result (IsReadRound payload.now into.old.items into.new.items) }
     ensures short { result ≡ Err Short → IsCutRound payload.now }
     ensures bad { (at : ℕ) → result ≡ Err (Bad at) → IsBadRoundAt payload.now at }

@@ -41,7 +41,7 @@ fn put_u16(out: &mut Vec<u8>, n: u16)
 }
 
 #[tactic(auto, unfolding(crate::specs::Fields::number))]
-fn put_u32(out: &mut Vec<u8>, n: u32)
+pub(crate) fn put_u32(out: &mut Vec<u8>, n: u32)
     ensures { Puts (number 4 n) out.old out.new }
 {
     put(out, &n.to_be_bytes());

@@ -1,3 +1,4 @@
+pub mod Built
 pub mod Program
 pub mod Session
 pub mod Stood

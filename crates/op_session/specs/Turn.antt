@@ -5,7 +5,6 @@ use Rattle.std.specs.declared.result.Result.{Result}
 use Rattle.op_ports.specs.Clock.{AsksKnown}
 use Rattle.op_ports.specs.Words.{DrawsKnown}
 use Rattle.op_model.specs.History.{moment_of_turn}
-use Rattle.op_model.specs.Meant.{meant_so_far}
 use Rattle.op_model.specs.Printed.{printed}
 use Rattle.op_model.specs.Round.{FeesAllowed, Handled, IsPlainRound, refusal_reply}
 use Rattle.op_model.specs.Requests.{Raw, IsWholeRequest}
@@ -17,6 +16,7 @@ use Rattle.op_model.specs.declared.reply.Refusal.TheVariants.{Memory}
 use Rattle.op_model.specs.declared.request.Request.{Request}
 use Rattle.op_model.specs.declared.request.Task.TheVariants.{Ask}
 use Rattle.op_model.specs.declared.request.Verdict.{Verdict}
+use Rattle.op_session.specs.Built.{meant_so_far}
 use Rattle.op_session.specs.Stood.{Stood, now, with_entries}
 use Rattle.op_session.specs.World.{World}
 

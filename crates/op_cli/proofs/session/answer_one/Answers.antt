@@ -4,7 +4,7 @@ use Rattle.std.specs.Io.KnownBytes.{Appends}
 use Rattle.std.specs.declared.result.Result.{Result}
 use Rattle.op_desk.specs.Wallets.{Handles}
 use Rattle.op_model.specs.History.{moment_of_turn}
-use Rattle.op_model.specs.Meant.{meant_so_far}
+use Rattle.op_session.specs.Built.{meant_so_far}
 use Rattle.op_model.specs.Printed.{printed}
 use Rattle.op_model.specs.Round.{refusal_reply}
 use Rattle.op_model.specs.Verdicts.{verdict_of}
@@ -19,13 +19,12 @@ use Rattle.op_session.specs.Stood.{Stood, now}
 use Rattle.op_cli.specs.Kept.{history_at}
 use Rattle.op_cli.specs.Turns.{Told, NotTold, NotHandled, NotWritten, Answers}
 use Rattle.op_cli.proofs.Journals.{leaves_same, leaves_none}
-use Rattle.op_cli.proofs.Meant.{meant_fit}
 use Rattle.op_cli.proofs.Results.{on_ok_map, if_err_map}
 use Rattle.op_cli.proofs.RoundLemmas.{answers_handled, answers_refused, answers_wanting, not_told, not_told_refused}
 use Rattle.op_cli.proofs.session.answer_one.Goals as goal
 
 pub run_request-requires-clause-fit : goal.run_request-requires-clause-fit
-run_request-requires-clause-fit g c = meant_fit c.args.raw.now c.in-Ok.request c.in-Ok.ensures.meant
+run_request-requires-clause-fit g c = c.in-Ok.ensures.fit
 
 pub returns-in-Ok-clause-ok : goal.returns-in-Ok-clause-ok
 returns-in-Ok-clause-ok g c =

@@ -8,8 +8,17 @@ use Rattle.op_cli.specs.Kept.{history_at}
 use Rattle.op_cli.specs.Told.{world_of}
 use Rattle.op_cli.specs.Turns.{here}
 use Rattle.op_cli.proofs.Journals.{kept_more, kept_first, now_opened, now_with}
-use Rattle.op_cli.proofs.SessionLemmas.{one_more, at_once, at_limit, begins_fresh}
+use Rattle.op_cli.proofs.SessionLemmas.{one_more, at_once, at_limit, begins_fresh, no_table}
 use Rattle.op_cli.proofs.session.session.Goals as goal
+
+pub returns-in_default-clause-session : goal.returns-in_default-clause-session
+returns-in_default-clause-session g c =
+    let world = world_of g.S.Source.left g.C.Clock.answers g.W.Words.words g.K.Sink.written g.V.Verifier.accepts c.args.outside.now in
+    let first = history_at c.args.desk in (
+      settled (opened_with first),
+      no_table g.F.FeeTerms.allows first world,
+      kept_first g.D.Disk.tells g.D.Disk.seen g.D.Disk.moment g.D.Disk.since g.D.Disk.images g.D.Disk.faults g.met.D.Disk.only_now first c.args.outside.now.disk c.requires.sound,
+    )
 
 pub loop-answered-init : goal.loop-answered-init
 loop-answered-init g c =

@@ -25,7 +25,7 @@ returns-then-eq c =
     let same = c.new.ensures ∙ (c.in_ok-from_slice.ensures.items ∙ c.as_bytes-then-eq.ensures.value) in
     ap (λ (found : Option Route). route_or_refusal found (methods_at path))
     (address_routed method path c.utf8.path c.in_default.ensures
-    (ap (bytes_eq method) (sym c.as_slice.ensures) ∙ (sym c.eq.ensures ∙ c.if-eq.true)) (sym c.in_ok-is_address.ensures ∙ c.if-is_address.true))
+    (ap (bytes_eq method) (sym (c.as_bytes-then-is_address.ensures.value ∙ c.as_str.ensures.value)) ∙ (sym c.eq.ensures ∙ c.if-eq.true)) (sym c.in_ok-is_address.ensures ∙ c.if-is_address.true))
     ∙ ap (λ (text : List ℕ). Ok (ReadAddress text)) (sym same)
 
 pub returns : goal.returns
@@ -33,7 +33,7 @@ returns c =
     let method = c.args.method.now in
     let path = c.args.path.now in
     let other : (bytes_eq method get && is_path path) ≡ false = elim c.else-is_address.branch [
-      | else-is_address-via-then-is_address+else-eq w ↦ no_get method path (ap (bytes_eq method) (sym w.as_slice.ensures) ∙ (sym w.eq.ensures ∙ w.if-eq.false))
+      | else-is_address-via-then-is_address+else-eq w ↦ no_get method path (ap (bytes_eq method) (sym (w.as_bytes-then-is_address.ensures.value ∙ w.as_str.ensures.value)) ∙ (sym w.eq.ensures ∙ w.if-eq.false))
       | else-is_address-via-else-is_address w ↦ no_address method path (sym c.in_ok-is_address.ensures ∙ w.if-is_address.false)
     ] in
     let methods =

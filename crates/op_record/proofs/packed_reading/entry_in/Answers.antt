@@ -1,6 +1,6 @@
 use Rattle.std.proofs.Common.{◌≡◌, ap, arith, length}
 use Rattle.op_record.proofs.Held.{opens, opening_is_there, opening_shorter, found_here, passes, entry_is_there, entry_shorter}
-use Rattle.op_record.proofs.packed.entry_in.Goals as goal
+use Rattle.op_record.proofs.packed_reading.entry_in.Goals as goal
 
 pub opened-requires : goal.opened-requires
 opened-requires c = opening_is_there _ _ _ _ _ _ c.in-Some.opening.now c.loop-opening.invariant.is c.in-Some.ensures

@@ -1,7 +1,7 @@
 use Rattle.std.proofs.Common.{ℕ, ◌≤◌, length}
 use Rattle.op_time.specs.declared.TheConstants.{LAST}
 use Rattle.op_record.proofs.Held.{IsLeftOf}
-use Rattle.op_record.proofs.packed.entry_in.Given as goal
+use Rattle.op_record.proofs.packed_reading.entry_in.Given as goal
 
 abbrev pub invariant-loop-opening : goal.invariant-loop-opening
 invariant-loop-opening l = record {
