@@ -8,6 +8,7 @@ use Rattle.url.proofs.OnLiterals.{url_on_literals}
 use Rattle.op_model.specs.Audit.{audited}
 use Rattle.op_model.specs.Legal.{IsLegal}
 use Rattle.op_model.specs.declared.act.Entry.{Entry}
+use Rattle.op_model.proofs.Purchase.{purchase as worked}
 use Rattle.op_model.proofs.LegalNext.{MayFollow, legal-with_act}
 use Rattle.op_reply.proofs.WorkedPurchase.{Done, purchase, moment, outcome, after, history_after}
 
@@ -78,3 +79,8 @@ purchase_is_legal = legal-fold (history_after 12) (drop 12 purchase) legal_until
 audit_is : audited (history_after 19) ≡ codes "entries 15\nasset USD/2 total 10000 pool 0 fees 10 wallets 9990 held 0\npayments 1 ended 1\n"
 unfolding hex_on_literals digits
 audit_is = refl
+
+-- it is the worked purchase of the model
+is_the_purchase : history_after 19 ≡ worked
+unfolding hex_on_literals digits url_on_literals utf8_valid_len
+is_the_purchase = refl
