@@ -1,9 +1,9 @@
-mod Built
 mod Journals
 mod Openings
 mod Printable
 mod Results
 mod RoundLemmas
 mod SessionLemmas
+mod SoFar
 mod TurnLemmas
 mod WholeLemmas

@@ -30,10 +30,14 @@ pub fn prepare_built<V: Verifier>(
     ensures fit { IfOk result (λ (request, verdict). IsFit request) }
     ensures printable { IfErr result IsBuiltFault }
 {
-    let (request, verdict) = prepare(alloc, table, raw, verifier)?;
-    if is_built(&request) {
-        Ok((request, verdict))
-    } else {
-        Err(ApiFault::Refused(Refusal::NotFound))
+    match prepare(alloc, table, raw, verifier) {
+        Ok((request, verdict)) => {
+            if is_built(&request) {
+                return Ok((request, verdict));
+            }
+            Err(ApiFault::Refused(Refusal::NotFound))
+        }
+        Err(ApiFault::Refused(refusal)) => Err(ApiFault::Refused(refusal)),
+        Err(ApiFault::Memory) => Err(ApiFault::Memory),
     }
 }
