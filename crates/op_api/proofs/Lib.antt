@@ -13,4 +13,5 @@ pub mod Queries
 pub mod References
 pub mod Starts
 pub mod ValueForms
+mod WorkedBodies
 pub mod Yields

@@ -12,6 +12,8 @@ mod payments;
 mod provider;
 mod request;
 #[cfg(test)]
+mod request_tests;
+#[cfg(test)]
 mod tests;
 mod values;
 mod verdict;

@@ -87,7 +87,7 @@ impl Verifier for Asked {
 }
 
 /// A request with these fields.
-fn request(
+pub(crate) fn request(
     alloc: Global,
     method: &[u8],
     target: &[u8],
