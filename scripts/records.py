@@ -1,9 +1,13 @@
 #!/usr/bin/env python3
-"""Prints the tables of crates/op_record/src/tests.rt: records of every kind, smallest and largest, and wrong bytes.
+"""Prints the tables of crates/op_record/src/tests.rt: records of every kind, smallest and largest, rounds of both
+versions, and wrong bytes.
 
 It knows the format from docs/FORMATS.md alone and shares nothing with the crate: a byte is wrong where no number
-between the least and the greatest that begin with the bytes so far is allowed.
+between the least and the greatest that begin with the bytes so far is allowed. `records.py check` tries every cut and
+every byte at every place of the rounds against this rule and against the grammar itself, and prints nothing else.
 """
+
+import sys
 
 LAST = 253402300799999
 
@@ -72,11 +76,28 @@ class Reader:
         self.text(512)
         self.text(128)
 
-    def entry(self):
-        self.word(8, LAST)
-        kind = self.number(1, [(1, 24)])
+    def act(self, highest):
+        kind = self.number(1, [(1, highest)])
         for step in ROWS[kind]:
             step(self)
+
+    def entry(self):
+        self.word(8, LAST)
+        self.act(24)
+
+    def round(self):
+        """A payload: version 2 where the first byte is 2, else version 1. It is filled by one entry or more."""
+        second = self.data[:1] == b"\x02"
+        if second:
+            self.at = 1
+            self.word(8, LAST)
+        while True:
+            if second:
+                self.act(25)
+            else:
+                self.entry()
+            if self.at == len(self.data):
+                return
 
 
 def u(width):
@@ -99,13 +120,14 @@ ROWS = {
     11: [t(256), Reader.items, o(Reader.finish), word], 12: [u(8), word], 13: [u(8), word], 14: [u(8)], 15: [u(8), word],
     16: [u(8)], 17: [u(8), word], 18: [u(8)], 19: [u(8), u(8), o(t(1024))], 20: [u(8), u(8)], 21: [u(8), u(8)],
     22: [u(8), u(8)], 23: [u(8), u(8), lambda r: r.number(1, [(1, 3)])], 24: [u(8), lambda r: r.number(2, [(0, 0), (100, 999)])],
+    25: [u(8), u(4)] + [u(8)] * 7 + [o(t(1024))],
 }
 
 
-def answer(data):
+def answer(data, read=Reader.entry):
     r = Reader(data)
     try:
-        r.entry()
+        read(r)
     except Short:
         return "short"
     except Bad as bad:
@@ -124,7 +146,7 @@ SMALL = {
     6: f"{Z4} {Z4} {Z8} {Z8}", 7: f"{Z8} {Z4} 00 {M0} 00", 8: f"{Z8} {Z8}", 9: Z8,
     10: f"{Z8} {Z4} {Z8} 01" + f" {Z8}" * 7, 11: f"0000 01 01 01 00 00 00 {W}", 12: f"{Z8} {W}", 13: f"{Z8} {W}", 14: Z8,
     15: f"{Z8} {W}", 16: Z8, 17: f"{Z8} {W}", 18: Z8, 19: f"{Z8} {Z8} 00", 20: f"{Z8} {Z8}", 21: f"{Z8} {Z8}",
-    22: f"{Z8} {Z8}", 23: f"{Z8} {Z8} 01", 24: f"{Z8} 0000",
+    22: f"{Z8} {Z8}", 23: f"{Z8} {Z8} 01", 24: f"{Z8} 0000", 25: f"{Z8} {Z4}" + f" {Z8}" * 7 + " 00",
 }
 LIMITS = f"01 01 {F8} 02 {F4} {F8} 01 0080 50*128"
 LARGE = {
@@ -134,31 +156,84 @@ LARGE = {
     11: f"0100 63*256 03 01 3f 01 {F4} {LIMITS} 02 0d 01 {F4} {LIMITS} 03 3d 01 {F4} {LIMITS} 01 0200 75*512 0080 6e*128 {W}",
     12: f"{F8} {W}", 13: f"{F8} {W}", 14: F8, 15: f"{F8} {W}", 16: F8, 17: f"{F8} {W}", 18: F8,
     19: f"{F8} {F8} 01 0400 7b*1024", 20: f"{F8} {F8}", 21: f"{F8} {F8}", 22: f"{F8} {F8}", 23: f"{F8} {F8} 03", 24: f"{F8} 03e7",
+    25: f"{F8} {F4}" + f" {F8}" * 7 + " 01 0400 7b*1024",
 }
 
 
-def wrong(record):
+def wrong(record, read=Reader.entry):
     """For each place where some byte is wrong: the least and the greatest such byte there."""
     for place in range(len(record)):
-        bad = [b for b in range(256) if answer(record[:place] + bytes([b])) == place]
+        bad = [b for b in range(256) if answer(record[:place] + bytes([b]), read) == place]
         for b in sorted({min(bad), max(bad)} if bad else []):
             yield place, b
+
+
+def rounds():
+    """Rounds, as a name, their pieces, and the lengths at which a cut of them is a round itself."""
+    ones = [f"{kind:02x} {fields}" for kind, fields in SMALL.items()]
+    first = [f"{M0} {one}" for one in ones[:24]]
+    yield "each kind of version 1", first
+    yield "each kind of version 2", ["02 " + M1] + ones
+    yield "two entries of version 1", [f"{M1} {ones[0]}", f"{M0} {ones[23]}"]
+    yield "two entries of version 2", ["02 " + M1, ones[0], f"19 {LARGE[25]}"]
+    yield "one entry of version 2", ["02 " + M0, "14 " + SMALL[20]]
+
+
+def whole_lengths(pieces):
+    """Where a round may end: behind each piece but the opening of version 2."""
+    length, ends = 0, []
+    for piece in pieces:
+        length += len(spell(piece))
+        if not piece.startswith("02 " + "0") or length > 9:
+            ends.append(length)
+    return ends
+
+
+def check():
+    """Every cut, and every byte at every place, of each round."""
+    for name, pieces in rounds():
+        data = b"".join(spell(piece) for piece in pieces)
+        ends = whole_lengths(pieces)
+        for end in range(len(data)):
+            assert answer(data[:end], Reader.round) == ("whole" if end in ends else "short"), (name, end)
+        assert answer(data, Reader.round) == "whole", name
+        for place in range(len(data)):
+            for b in range(256):
+                told = answer(data[:place] + bytes([b]), Reader.round)
+                assert told in ("whole", "short") or told == place, (name, place, b, told)
+
+
+def listed(pairs):
+    return ", ".join(f"({a}, {b})" for a, b in pairs)
 
 
 def main():
     print("// rows")
     for moment, table in ((M0, SMALL), (M1, LARGE)):
         for kind, fields in table.items():
-            pieces = f"{moment} {kind:02x} {fields}"
-            assert answer(spell(pieces)) == "whole", kind
-            print(f'    "{pieces}",')
+            if kind <= 24:
+                pieces = f"{moment} {kind:02x} {fields}"
+                assert answer(spell(pieces)) == "whole", kind
+                print(f'    "{pieces}",')
     print("// wrong")
     for kind, fields in LARGE.items():
-        pieces = f"{M1} {kind:02x} {fields}"
-        places = [(p, b) for p, b in wrong(spell(pieces)) if kind == 1 or p > 8]
-        if places:
-            listed = ", ".join(f"({p}, {b})" for p, b in places)
-            print(f'    ("{pieces}", &[{listed}]),')
+        if kind <= 24:
+            pieces = f"{M1} {kind:02x} {fields}"
+            places = [(p, b) for p, b in wrong(spell(pieces)) if kind == 1 or p > 8]
+            if places:
+                print(f'    ("{pieces}", &[{listed(places)}]),')
+    print("// rounds")
+    for name, pieces in rounds():
+        ends = ", ".join(str(end) for end in whole_lengths(pieces))
+        print(f'    ("{" ".join(pieces)}", &[{ends}]),')
+    print("// wrong rounds")
+    for name, pieces in rounds():
+        data = b"".join(spell(piece) for piece in pieces)
+        places = list(wrong(data, Reader.round))
+        print(f'    ("{" ".join(pieces)}", &[{listed(places)}]),')
 
 
-main()
+if sys.argv[1:] == ["check"]:
+    check()
+else:
+    main()

@@ -7,6 +7,7 @@ use Rattle.std.proofs.Math.Seq.{drop-append_seam}
 use Rattle.std.proofs.Math.ListN.{drop_of_length-le}
 use Rattle.op_time.specs.declared.TheConstants.{LAST}
 use Rattle.op_model.specs.declared.act.Entry.{Entry}
+use Rattle.op_model.specs.declared.act.Act.TheVariants as acts
 use Rattle.op_record.specs.declared.fault.Fault.{Fault}
 use Rattle.op_record.specs.declared.fault.Fault.TheVariants.{Short, Bad}
 use Rattle.op_record.specs.declared.packed.Point.{Point}
@@ -395,3 +396,13 @@ found_by bytes points index d c pointed inside =
 pub whole_bytes : (moment : Option ℕ) (bytes : List ℕ) (points : List Point) (start before : ℕ) → Stands moment bytes points start before (held 0 bytes) → IsClosed bytes points (held 0 bytes)
 whole_bytes None bytes points start before c = c
 whole_bytes (Some at) bytes points start before o = closed at bytes points start (held 0 bytes) (drop before (held 0 bytes)) o
+
+-- a round of one step has 26 bytes
+
+pub one_step : (first at payment step : ℕ) (round : List Entry) → round ≡ record { at = at; act = acts.OutgoingFunded payment step } ∷ [] → length (round_of first round) ≡ 26
+one_step first at payment step round is =
+    let act = number 8 payment ++ (number 8 step ++ []) in
+    ap (λ (l : List Entry). length (round_of first l)) is ∙ omega (
+      arith, length-append (number 8 first) ((20 ∷ act) ++ []), length-append (20 ∷ act) [], length-append (number 8 payment) (number 8 step ++ []), length-append (number 8 step) [],
+      length_number 8 first, length_number 8 payment, length_number 8 step,
+    )

@@ -10,6 +10,8 @@ mod packed;
 mod packed_bytes;
 mod packed_reading;
 mod reading;
+#[cfg(test)]
+mod round_tests;
 mod round_writing;
 mod rounds;
 #[cfg(test)]

@@ -251,7 +251,7 @@ fn push_pairs(out: &mut Vec<u8>, digits: &[u8]) -> Result<(), AllocError> {
     Ok(())
 }
 
-fn spelled(alloc: Global, pieces: &str) -> Result<Vec<u8>, AllocError> {
+pub(crate) fn spelled(alloc: Global, pieces: &str) -> Result<Vec<u8>, AllocError> {
     let mut out = Vec::new(alloc);
     for piece in pieces.split(' ') {
         let (digits, times) = match piece.split_once('*') {
