@@ -23,8 +23,8 @@ ghost use Rattle.op_cli.specs.Kept.{history_at, FromEach, IsReady, Leaves, Kept}
 ghost use Rattle.op_cli.specs.Told.{world_of};
 ghost use Rattle.op_cli.specs.Turns.{here, Turns, Stops, IsFit, Handled, NotHandled, NotStood, Told, NotTold, NotWritten, Replies, ReplyFails, RefusalEnds, Unread};
 
-use crate::outside::Outside;
 use crate::built::prepare_built;
+use crate::outside::Outside;
 use op_api::{ApiFault, disk_fault_reply, journal_full_reply};
 use op_desk::{Batch, Desk, RoundFault};
 use op_disk::Disk;

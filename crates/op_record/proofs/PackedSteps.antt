@@ -403,6 +403,12 @@ pub one_step : (first at payment step : ℕ) (round : List Entry) → round ≡ 
 one_step first at payment step round is =
     let act = number 8 payment ++ (number 8 step ++ []) in
     ap (λ (l : List Entry). length (round_of first l)) is ∙ omega (
-      arith, length-append (number 8 first) ((20 ∷ act) ++ []), length-append (20 ∷ act) [], length-append (number 8 payment) (number 8 step ++ []), length-append (number 8 step) [],
-      length_number 8 first, length_number 8 payment, length_number 8 step,
+      arith,
+      length-append (number 8 first) ((20 ∷ act) ++ []),
+      length-append (20 ∷ act) [],
+      length-append (number 8 payment) (number 8 step ++ []),
+      length-append (number 8 step) [],
+      length_number 8 first,
+      length_number 8 payment,
+      length_number 8 step,
     )
