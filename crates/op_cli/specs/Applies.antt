@@ -1,5 +1,5 @@
 -- What a call of `apply` comes to: the journal is not opened, or a session on the history that its disk spells.
-use Rattle.std.specs.Prelude.{◌≡◌, ◌⊎◌, ◌≤◌, ◌+◌, ◌*◌, ℕ, Bool, List, length, IsTrue}
+use Rattle.std.specs.Prelude.{◌≡◌, ◌⊎◌, ◌≤◌, ◌+◌, ◌*◌, ℕ, Bool, List, ◌++◌, length, IsTrue}
 use Rattle.op_causes.specs.Causes.{Rose}
 use Rattle.op_desk.specs.Spelling.{Spells, SpellsRounds, opening_calls}
 use Rattle.op_desk.specs.Wallets.{IsSound}
@@ -8,6 +8,7 @@ use Rattle.op_desk.specs.declared.fault.DeskFault.TheVariants as faults
 use Rattle.op_disk.specs.Calls.{LeavesOnly}
 use Rattle.op_journal.specs.Recovered.{IsOldOrShort}
 use Rattle.op_model.specs.Round.{FeesAllowed}
+use Rattle.op_model.specs.Laws.{KeepsLaws}
 use Rattle.op_model.specs.declared.act.Entry.{Entry}
 use Rattle.op_session.specs.Program.{code_of, illegal_code}
 use Rattle.op_session.specs.Session.{Final, Session, begun, IsCompleteKnown}
@@ -61,6 +62,9 @@ pub record RunsOn {D : Type 0} (allows : FeesAllowed) (tells : Bool) (seen : D �
   pub stands : final.stands.found ≡ first
   pub tried : (rest : List (List Entry)) × (final.tried ≡ with_rounds final.stands rest)
   pub sound : IsSound (now final.tried)
+  -- at each point of it assets sum to zero, no interval's spending passes its grant's cap, each payment has debited what it sent
+  -- with the fee's share and delivered the rate's floor, nothing is overdrawn, and no step was taken twice
+  pub laws : (front rest : List Entry) → now final.tried ≡ front ++ rest → KeepsLaws front
   -- a crash at the end leaves what stands; only where the disk failed, perhaps with that round
   pub at_exit : IsTrue tells → (c : List ℕ) → images new c → Spells (now final.stands) c ⊎ Spells (now final.tried) c
   pub settled : ¬ Rose (faults old) (faults new) → final.tried ≡ final.stands

@@ -12,6 +12,8 @@ use crate::session::session;
 use crate::words::is_command;
 use op_desk::{Desk, DeskFault};
 use op_disk::Disk;
+use op_laws::laws_are_kept;
+use op_legal::beginnings_are_legal;
 use op_ports::{Clock, Sink, Source, Verifier, Words};
 use op_pricing::FeeRule;
 use op_session::End;
@@ -76,6 +78,9 @@ fn apply<D: Disk, S: Source, K: Sink, C: Clock, W: Words, V: Verifier, F: FeeRul
         → ¬ Rose (D.faults outside.old.disk) (D.faults outside.new.disk) → ¬ Rose (W.faults outside.old.draws) (W.faults outside.new.draws)
         → result ≢ 3 → result ≢ 7 → result ≢ 8 → result ≢ 11 → (result ≡ 0) ⊎ (result ≡ 10) }
 {
+    // What holds of every legal history, and so of the one that is opened and of all that it becomes.
+    beginnings_are_legal();
+    laws_are_kept();
     match Desk::recover(alloc, &mut outside.disk) {
         Ok(desk) => code_of(session(alloc, desk, outside)),
         Err(fault) => code_of_fault(fault),

@@ -1,6 +1,7 @@
 use Rattle.std.proofs.Common.{◌≡◌, ℕ, List, IsTrue, refl, sym, subst, ◌∙◌, inr}
 use Rattle.op_causes.specs.Causes.{Rose}
 use Rattle.op_desk.specs.Spelling.{Spells, history_of}
+use Rattle.op_model.specs.Legal.{IsLegal}
 use Rattle.op_model.specs.declared.act.Entry.{Entry}
 use Rattle.op_cli.specs.Kept.{history_at, Endures}
 use Rattle.op_cli.proofs.Journals.{whole_is}
@@ -36,6 +37,7 @@ returns-in-Ok-clause-replies g c =
       stands = kept.begins;
       tried = kept.tried;
       sound = kept.sound;
+      laws = λ front rest same. c.laws_are_kept.ensures front (c.beginnings_are_legal.ensures front rest (subst IsLegal same kept.sound.legal));
       at_exit = λ told bytes image.
           let calls = c.in-Ok.ensures.calls told in
           let is : history_of calls.0 ≡ first = sym (whole_is c.in-Ok.desk (history_of calls.0) (c.in-Ok.ensures.alone told (history_of calls.0) (calls.0, calls.1, refl))) in
