@@ -15,3 +15,4 @@ pub mod Covered
 pub mod Caps
 pub mod AllLaws
 pub mod Received
+mod WorkedLaws
