@@ -6,15 +6,19 @@ ghost use Rattle.std.specs.List.{list_all};
 ghost use Rattle.op_amount.specs.Values.{value_of, is_numeral, has_leading_zero};
 
 use crate::TOP;
+use thiserror::Error;
 
 /// Why a text is no value. The first that holds is told.
-#[derive(Clone, Copy, Debug, PartialEq, Eq)]
+#[derive(Clone, Copy, Debug, PartialEq, Eq, Error)]
 pub enum ValueFault {
     /// The text is empty, or a byte of it is no decimal digit.
+    #[error("a value is one decimal digit or more and nothing else")]
     NotDigits,
     /// It is longer than one digit and begins with `0`.
+    #[error("a value has no zero before its other digits")]
     LeadingZero,
     /// It passes the largest value, 10^18.
+    #[error("a value is at most {TOP}")]
     TooLarge,
 }
 

@@ -8,20 +8,25 @@ use crate::Interval;
 use crate::cuts::{after_first, before_first, contains};
 use crate::digits::{all_digits, digits_of, number};
 use crate::moments::moment_in;
+use thiserror::Error;
 
 /// The largest count.
 const COUNT_LIMIT: u64 = 1_000_000_000;
 
 /// Why a text names no repeating interval. The first that holds is told.
-#[derive(Clone, Copy, Debug, PartialEq, Eq)]
+#[derive(Clone, Copy, Debug, PartialEq, Eq, Error)]
 pub enum IntervalFault {
     /// It is not three parts, cut by two slashes, the first of which begins with `R`.
+    #[error("an interval is three parts, cut by slashes, and begins with `R`")]
     Shape,
     /// The second part is no moment.
+    #[error("the second part of the interval is no moment")]
     Start,
     /// The third part is no duration.
+    #[error("the third part of the interval is no duration")]
     Duration,
     /// What is behind the `R` is no count.
+    #[error("behind the `R` of an interval is a count from 1 to {COUNT_LIMIT}, or nothing")]
     Count,
 }
 

@@ -9,6 +9,7 @@ ghost use Rattle.op_time.specs.MomentTexts.{moment_of, moment_text, digit, momen
 use crate::Moment;
 use crate::calendar::{self, DAY, EPOCH_DAY};
 use crate::digits::{digits_of, fits, number, number_at};
+use thiserror::Error;
 
 /// A date and a time of day.
 const CLOCK: &[u8; 19] = b"dddd-dd-ddTdd:dd:dd";
@@ -17,11 +18,13 @@ const CLOCK: &[u8; 19] = b"dddd-dd-ddTdd:dd:dd";
 const OFFSET: &[u8; 6] = b"sdd:dd";
 
 /// Why a text names no moment.
-#[derive(Clone, Copy, Debug, PartialEq, Eq)]
+#[derive(Clone, Copy, Debug, PartialEq, Eq, Error)]
 pub enum MomentFault {
     /// Digits, letters or signs do not stand in their places.
+    #[error("the digits, letters and signs of a moment are not in their places")]
     Shape,
     /// A part is no date, time or offset, or the moment lies before 1970 or after the year 9999.
+    #[error("a part is no date, time or offset, or the moment is not in the years 1970 to 9999")]
     Range,
 }
 
