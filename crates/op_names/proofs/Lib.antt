@@ -1,3 +1,4 @@
+pub mod AsciiTexts
 pub mod Blocks
 pub mod Choices
 pub mod Digits

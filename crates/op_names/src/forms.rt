@@ -24,7 +24,7 @@ fn all_visible(text: &[u8]) -> bool
 }
 
 /// Whether the text is visible ASCII of at least one byte and at most so many.
-pub(crate) fn is_word(limit: usize, text: &[u8]) -> bool
+pub fn is_word(limit: usize, text: &[u8]) -> bool
     ensures { result ≡ is_word limit text.now }
 {
     if text.is_empty() || text.len() > limit {
