@@ -10,3 +10,9 @@ pub record HasCause {T E : Type 0} (before now : ℕ) (result : Result T E) : Ty
   pub later : before ≤ now
   pub failed : OnErr result (Rose before now)
   pub kept : OnOk result (now ≡ before)
+
+-- An answer names the fault of an object, or not: it does only where that object's count of faults rose, and passes no fault
+-- over.
+pub record NamesFault (before now : ℕ) (named : Type 0) : Type 0 where
+  pub cause : named → Rose before now
+  pub kept : (named → ⊥) → now ≡ before

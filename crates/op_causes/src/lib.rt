@@ -1,8 +1,9 @@
 //! Causes: a fault is answered only where the object of the outside that it names counted one.
 //!
 //! Each trait of the outside (a disk, a stream, a clock) has a count of its faults that never falls. Its contracts,
-//! and those of every call above it, say "this answer came from that object" by two words: `Rose`, the count rose,
-//! and `HasCause`, what a call owes its object's count.
+//! and those of every call above it, say "this answer came from that object" by three words: `Rose`, the count rose;
+//! `HasCause`, what a call that can only fail by its object owes that object's count; and `NamesFault`, the same of a call
+//! whose answer has other reasons too.
 #![tactic(auto)]
 
 ghost use Rattle.std.specs.Prelude.{◌≡◌, ◌+◌, ◌-◌, ◌^◌, ◌≤◌, min};

@@ -14,9 +14,11 @@ mod memory;
 
 pub use file::FileDisk;
 pub use memory::{Call, MemoryDisk};
+use thiserror::Error;
 
 /// A call on the disk failed.
-#[derive(Clone, Copy, Debug, PartialEq, Eq)]
+#[derive(Clone, Copy, Debug, PartialEq, Eq, Error)]
+#[error("a call on the disk failed")]
 pub struct DiskFault;
 
 /// A disk and what a crash may leave of it.

@@ -1,8 +1,7 @@
 -- What a commit is given, and what a crash in it may leave.
-use Rattle.std.specs.Prelude.{◌≡◌, ◌⊎◌, ◌<◌, ◌≤◌, ◌+◌, ◌-◌, ℕ, List, [], ◌∷◌, ◌++◌, length, take, drop, map, Vec}
+use Rattle.std.specs.Prelude.{◌≡◌, ◌⊎◌, ◌<◌, ◌+◌, ◌-◌, ℕ, List, [], ◌∷◌, ◌++◌, length, take, drop}
 use Rattle.std.specs.Int.{w32, to_be_bytes}
-use Rattle.std.specs.declared.alloc.Global.{Global}
-use Rattle.op_journal.specs.Frames.{IsClosed, SpellsUpTo, Spells}
+use Rattle.op_journal.specs.Frames.{IsClosed, SpellsUpTo}
 
 -- the payload of what a commit writes behind the gate
 abbrev pub payload_of : List ℕ → List ℕ
@@ -21,10 +20,3 @@ pub record IsSettled (tail : ℕ) (seen : List ℕ) (images : List ℕ → Type 
 -- the frames before a commit, or these and the new one
 abbrev pub SpellsEither : List (List ℕ) → ℕ → List ℕ → List ℕ → Type 0
 SpellsEither payloads tail body c = SpellsUpTo payloads tail c ⊎ SpellsUpTo (payloads ++ payload_of body ∷ []) (tail + length body) c
-
-abbrev pub payloads_of : List (Vec ℕ Global) → List (List ℕ)
-payloads_of bodies = map (λ body. payload_of body.items) bodies
-
--- the frames before a series of commits and the first of the new ones, at least k of them and at most top
-abbrev pub SpellsMore : List (List ℕ) → List (List ℕ) → ℕ → ℕ → List ℕ → Type 0
-SpellsMore payloads new k top c = (n : ℕ) × (k ≤ n) × (n ≤ top) × Spells (payloads ++ take n new) c

@@ -1,23 +1,26 @@
 // Commits to a journal.
-ghost use Rattle.std.specs.Prelude.{◌≡◌, ◌+◌, ◌*◌, ◌<◌, ◌≤◌, ◌∷◌, ◌++◌, [], ℕ, List, length, slice_index_or, IsTrue, OnOk, OnErr, IsErrOf, true, false};
-ghost use Rattle.op_causes.specs.Causes.{Rose};
+ghost use Rattle.std.specs.Prelude.{◌≡◌, ◌+◌, ◌<◌, ◌≤◌, ◌∷◌, ◌++◌, [], ℕ, List, length, IsTrue, OnOk, IsErrOf, true, false};
+ghost use Rattle.op_causes.specs.Causes.{HasCause, Rose};
 ghost use Rattle.op_disk.specs.Calls.{LeavesOnly};
 ghost use Rattle.op_journal.specs.declared.commits.CommitFault.TheVariants.{DiskFault as Faulty};
-ghost use Rattle.op_journal.specs.Commits.{IsBody, IsSettled, SpellsEither, SpellsMore, payload_of, payloads_of};
+ghost use Rattle.op_journal.specs.Commits.{IsBody, IsSettled, SpellsEither, payload_of};
 ghost use Rattle.op_journal.specs.Frames.{Holds, SpellsUpTo, limit};
 
 use crate::LIMIT;
 use op_disk::{Disk, DiskFault};
+use thiserror::Error;
 
 /// An open gate.
 const OPEN: [u8; 1] = [1];
 
 /// Why a commit was refused.
-#[derive(Clone, Copy, Debug, PartialEq, Eq)]
+#[derive(Clone, Copy, Debug, PartialEq, Eq, Error)]
 pub enum CommitFault {
     /// A call on the disk failed. The frame may or may not be there; the journal is closed.
+    #[error("a call on the disk failed in a commit")]
     DiskFault,
     /// The frame and the gate behind it do not fit. Nothing was written.
+    #[error("the frame needs {need} bytes behind byte {tail}, past the journal's limit")]
     Full {
         /// The place of the closed gate.
         tail: u64,
@@ -25,6 +28,7 @@ pub enum CommitFault {
         need: u64,
     },
     /// An earlier commit of this journal met a disk fault.
+    #[error("the journal is closed since a commit failed on the disk")]
     Closed,
 }
 
@@ -92,35 +96,6 @@ impl Journal {
         self.tail += body.len() as u64;
         Ok(())
     }
-
-    /// Commits these bodies in order, up to the first that is refused.
-    ///
-    /// After the first 4k calls on the disk, and at every moment from there on, a crash leaves at least k frames more.
-    pub fn commit_each<D: Disk>(
-        &mut self,
-        disk: &mut D,
-        bodies: &[Vec<u8>],
-    ) -> Result<(), CommitFault>
-        requires settled { IsTrue D.tells → self.old.closed ≡ false → IsSettled self.old.tail (D.seen disk.old) (D.images disk.old) }
-        requires bodies { (k : ℕ) (d : _) → k < length bodies.now → IsBody (slice_index_or bodies.now k d).items }
-
-        ensures spells { OnOk result (IsTrue D.tells → self.old.closed ≡ false → (payloads : List (List ℕ)) → Holds payloads self.old.tail (D.seen disk.old)
-            → SpellsUpTo (payloads ++ payloads_of bodies.now) self.new.tail (D.seen disk.new)) }
-        ensures settled { OnOk result (IsTrue D.tells → self.old.closed ≡ false → IsSettled self.new.tail (D.seen disk.new) (D.images disk.new)) }
-        ensures each { IsTrue D.tells → self.old.closed ≡ false → (payloads : List (List ℕ)) → Holds payloads self.old.tail (D.seen disk.old)
-            → (done : ℕ) × (done ≤ length bodies.now) × OnOk result (done ≡ length bodies.now) × (D.moment disk.old + 4 * done ≤ D.moment disk.new) × (D.moment disk.new ≤ D.moment disk.old + 4 * done + 4)
-            × ((k : ℕ) (c : List ℕ) → k ≤ done → D.since disk.new (D.moment disk.old + 4 * k) c → SpellsMore payloads (payloads_of bodies.now) k (length bodies.now) c) }
-        ensures calls { OnOk result (D.moment disk.new ≡ D.moment disk.old + 4 * length bodies.now) }
-        ensures cause { OnOk result (D.faults disk.new ≡ D.faults disk.old) }
-        ensures fault { IsErrOf result CommitFault.DiskFault → Rose (D.faults disk.old) (D.faults disk.new) × (self.new.closed ≡ true) }
-        ensures full { (tail need : ℕ) → IsErrOf result (CommitFault.Full tail need) → (self.new.closed ≡ false) × (tail ≡ self.new.tail) × (limit < tail + need) }
-        ensures closed { IsErrOf result CommitFault.Closed → (self.old.closed ≡ true) × (disk.new ≡ disk.old) × (self.new ≡ self.old) }
-    {
-        for body in bodies {
-            self.commit(disk, body)?;
-        }
-        Ok(())
-    }
 }
 
 // Writes the frame behind the closed gate, and opens the gate once the frame is durable.
@@ -136,8 +111,7 @@ fn write_frame<D: Disk>(disk: &mut D, tail: u64, body: &[u8]) -> Result<(), Disk
         → LeavesOnly D.moment D.since disk.old disk.new (SpellsEither payloads tail body.now) }
     ensures calls { OnOk result (D.moment disk.new ≡ D.moment disk.old + 4) }
     ensures at_most { D.moment disk.new ≤ D.moment disk.old + 4 }
-    ensures cause { OnOk result (D.faults disk.new ≡ D.faults disk.old) }
-    ensures fault { OnErr result (Rose (D.faults disk.old) (D.faults disk.new)) }
+    ensures cause { HasCause (D.faults disk.old) (D.faults disk.new) result }
 {
     disk.write_at(tail + 1, body)?;
     disk.sync()?;

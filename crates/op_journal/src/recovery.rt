@@ -1,7 +1,7 @@
 // Opening a journal on any disk, and reading its frames.
 ghost use Rattle.std.specs.Prelude.{◌≡◌, ◌≢◌, ◌⊎◌, ◌+◌, ◌<◌, ◌≤◌, ◌∷◌, ◌++◌, [], ℕ, List, length, take, drop, IsTrue, IfOk, IfErr, OnOk, OnErr, IsErrOf, Ok, true, false, nat_le, if◌then◌else◌};
 ghost use Rattle.std.specs.Int.{w32, to_be_bytes, from_be_bytes};
-ghost use Rattle.op_causes.specs.Causes.{Rose};
+ghost use Rattle.op_causes.specs.Causes.{NamesFault, Rose};
 ghost use Rattle.op_disk.specs.Calls.{LeavesOnly, NoMore, Only};
 ghost use Rattle.op_journal.specs.declared.recovery.JournalFault.TheVariants.{DiskFault as Faulty, Memory as NoMemory};
 ghost use Rattle.op_journal.specs.Commits.{IsSettled};
@@ -11,6 +11,7 @@ ghost use Rattle.op_journal.specs.Recovered.{Opened, IsFound, IsOldOrShort};
 use crate::{Journal, LIMIT};
 use op_disk::{Disk, DiskFault};
 use std::alloc::{AllocError, Global};
+use thiserror::Error;
 
 /// `OPWJ` and the version.
 const HEADER: [u8; 8] = *b"OPWJ\x00\x00\x00\x01";
@@ -19,18 +20,22 @@ const HEADER: [u8; 8] = *b"OPWJ\x00\x00\x00\x01";
 const FRESH: [u8; 9] = *b"OPWJ\x00\x00\x00\x01\x00";
 
 /// Why a journal was refused.
-#[derive(Clone, Copy, Debug, PartialEq, Eq)]
+#[derive(Clone, Copy, Debug, PartialEq, Eq, Error)]
 pub enum JournalFault {
     /// A call on the disk failed.
+    #[error("a call on the disk failed")]
     DiskFault,
     /// The disk has more than 9 bytes and does not begin with the journal's header.
+    #[error("the disk does not begin with a journal's header")]
     BadHeader,
     /// The gate at this place is open, and no whole frame stands behind it.
+    #[error("no whole frame stands behind the open gate at byte {at}")]
     BadFrame {
         /// The gate's place.
         at: u64,
     },
     /// There was no memory for the payload.
+    #[error("memory was wanting for a frame's payload")]
     Memory,
 }
 
@@ -184,9 +189,7 @@ fn read_range<D: Disk>(
     ensures crash { NoMore (D.images disk.old) (D.images disk.new) }
     ensures any_moment { LeavesOnly D.moment D.since disk.old disk.new (D.images disk.old) }
     ensures calls { OnOk result (D.moment disk.new ≡ D.moment disk.old + 1) }
-    ensures cause { (IsErrOf result JournalFault.DiskFault → ⊥) → D.faults disk.new ≡ D.faults disk.old }
-    ensures counted { D.faults disk.old ≤ D.faults disk.new }
-    ensures fault { IsErrOf result JournalFault.DiskFault → Rose (D.faults disk.old) (D.faults disk.new) }
+    ensures cause { NamesFault (D.faults disk.old) (D.faults disk.new) (IsErrOf result JournalFault.DiskFault) }
     ensures refusals { IfErr result (λ e. (e ≡ JournalFault.DiskFault) ⊎ (e ≡ JournalFault.Memory)) }
 {
     let mut found = vec![in alloc; 0; count]?;

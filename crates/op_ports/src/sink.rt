@@ -6,9 +6,11 @@ ghost use Rattle.op_ports.specs.Sink.{PutAppends};
 
 use op_causes::count_fault;
 use std::io::Write;
+use thiserror::Error;
 
 /// A write failed.
-#[derive(Clone, Copy, Debug, PartialEq, Eq)]
+#[derive(Clone, Copy, Debug, PartialEq, Eq, Error)]
+#[error("a write failed")]
 pub struct WriteFault;
 
 /// A stream of bytes that are written once, at the end.

@@ -6,9 +6,11 @@ ghost use Rattle.op_causes.specs.Causes.{HasCause};
 
 use op_causes::count_fault;
 use std::io::Read;
+use thiserror::Error;
 
 /// A read failed.
-#[derive(Clone, Copy, Debug, PartialEq, Eq)]
+#[derive(Clone, Copy, Debug, PartialEq, Eq, Error)]
+#[error("a read failed")]
 pub struct ReadFault;
 
 /// A stream of bytes that are read once, from the front.

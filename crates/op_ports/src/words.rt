@@ -6,9 +6,11 @@ ghost use Rattle.op_ports.specs.Words.{DrawsOne};
 
 use op_causes::count_fault;
 use std::random::RandomSource;
+use thiserror::Error;
 
 /// No word could be drawn.
-#[derive(Clone, Copy, Debug, PartialEq, Eq)]
+#[derive(Clone, Copy, Debug, PartialEq, Eq, Error)]
+#[error("no word could be drawn")]
 pub struct WordsFault;
 
 /// Words of sixteen bytes, from which the secrets are made. Each is drawn once.
