@@ -1,6 +1,8 @@
 -- What each call on a packed history leaves.
 use Rattle.std.proofs.Common.{◌≡◌, ◌≢◌, ℕ, zero, suc, ◌+◌, ◌-◌, ◌*◌, ◌/◌, ◌%◌, ◌<◌, ◌≤◌, lit<, lit≤, Bool, true, false, cond, eqb, List, [], ◌∷◌, ◌++◌, length, take, drop, get_or, Option, Some, None, Result, Ok, Err, refl, sym, ap, subst, ◌∙◌, append_assoc, arith, ◌⊎◌, inl, inr, length-drop}
 use Rattle.std.specs.Prelude.{IsSome}
+use Rattle.std.specs.Option.{unwrap_or}
+use Rattle.std.specs.Int.{w32, to_be_bytes}
 use Rattle.std.proofs.lemmas.Bool.{eqb-true, eqb-false, cases_lt}
 use Rattle.std.proofs.lemmas.List.{append-nil, length-append, drop-append-le, take_at, drop_at, get_or-drop}
 use Rattle.std.proofs.Math.Seq.{drop-append_seam}
@@ -16,13 +18,14 @@ use Rattle.op_record.specs.Readers.{bind, byte, byte_between, bytes_at}
 use Rattle.op_record.specs.Rows.{act_at, moment_at, entry_of_round_at}
 use Rattle.op_record.specs.Rounds.{act_in, IsInRound, round_of}
 use Rattle.op_record.specs.Packing.{PackedValue, opening_at, then_entries, entries_from, held, body_of}
-use Rattle.op_record.specs.PackedInside.{IsPiece, stride, IsPoint, ArePoints, IsClosed, IsOpen, Stands}
+use Rattle.op_record.specs.declared.packed.TheConstants.{STRIDE}
+use Rattle.op_record.specs.PackedInside.{IsPiece, IsPoint, ArePoints, IsClosed, IsOpen, Stands, round_in}
 use Rattle.op_record.proofs.FieldLaws.{again-bind, between-field, bytes-field}
 use Rattle.op_record.proofs.Parts.{moment-field}
 use Rattle.op_record.proofs.ActLaws.{entry_of_round-field}
 use Rattle.op_record.proofs.RoundSteps.{none_left}
 use Rattle.op_record.proofs.Held.{held_opening, held_entry, held_end, entry_shorter}
-use Rattle.op_record.proofs.LengthLaws.{length_number}
+use Rattle.op_record.proofs.LengthLaws.{length_number, length_four}
 use Rattle.op_record.proofs.Many.{flat_map_more}
 
 -- ---- pieces
@@ -57,20 +60,20 @@ piece_entry at entry low fits more = held_read at (act_in entry ++ more) entry m
 
 -- ---- points
 
-point_later : (from to number : ℕ) (text more : List ℕ) (es fs : List Entry) (p : Point) → stride * number ≤ length es → IsPoint text es from number p → IsPiece from more fs to → IsPoint (text ++ more) (es ++ fs) to number p
+point_later : (from to number : ℕ) (text more : List ℕ) (es fs : List Entry) (p : Point) → STRIDE * number ≤ length es → IsPoint text es from number p → IsPiece from more fs to → IsPoint (text ++ more) (es ++ fs) to number p
 point_later from to number text more es fs p there point piece = record {
   within = omega (arith, length-append text more, point.within);
   low = point.low;
   holds = λ rest.
       let d : drop p.place (text ++ more) ≡ drop p.place text ++ more = drop-append-le p.place text more point.within in
-      let e : drop (stride * number) (es ++ fs) ≡ drop (stride * number) es ++ fs = drop-append-le (stride * number) es fs there in
+      let e : drop (STRIDE * number) (es ++ fs) ≡ drop (STRIDE * number) es ++ fs = drop-append-le (STRIDE * number) es fs there in
       ap (λ (t : List ℕ). held p.moment (t ++ rest)) d
-      ∙ piece_then p.moment from to (drop p.place text) more (drop (stride * number) es) fs point.holds piece rest
+      ∙ piece_then p.moment from to (drop p.place text) more (drop (STRIDE * number) es) fs point.holds piece rest
       ∙ ap (λ (t : List Entry). t ++ held to rest) (sym e);
 }
 
 -- the number of a point is that of an entry
-there : (points : List Point) (es : List Entry) (number : ℕ) → length points ≡ (length es + 15) / stride → number < length points → stride * number ≤ length es
+there : (points : List Point) (es : List Entry) (number : ℕ) → length points ≡ (length es + 15) / STRIDE → number < length points → STRIDE * number ≤ length es
 there points es number pointed lt = omega (arith, pointed, lt)
 
 -- ---- what is held
@@ -103,7 +106,7 @@ fresh bytes points gate no_points =
 none_more : (es : List Entry) → es ++ [] ≡ es
 none_more es = append-nil es
 
-pub opened : (at : ℕ) (bytes new : List ℕ) (points : List Point) (entries : List Entry) (start : ℕ) → at ≤ LAST → length points ≡ (length entries + 15) / stride → IsClosed bytes points entries
+pub opened : (at : ℕ) (bytes new : List ℕ) (points : List Point) (entries : List Entry) (start : ℕ) → at ≤ LAST → length points ≡ (length entries + 15) / STRIDE → IsClosed bytes points entries
     → start ≡ length bytes → new ≡ bytes ++ body_of (round_of at []) → IsOpen at new points start entries []
 opened at bytes new points entries start low pointed c start_is is =
     let body = body_of (round_of at []) in
@@ -126,8 +129,8 @@ opened at bytes new points entries start low pointed c start_is is =
 pub closed : (at : ℕ) (bytes : List ℕ) (points : List Point) (start : ℕ) (entries round : List Entry) → IsOpen at bytes points start entries round → IsClosed bytes points entries
 closed at bytes points start entries round o =
     let payload = round_of at round in
-    let digits = number 4 (length payload) in
-    let four = length_number 4 (length payload) in
+    let digits = to_be_bytes w32 (length payload) in
+    let four = length_four (length payload) in
     record {
       text = o.text ++ 0 ∷ (digits ++ payload);
       to = at;
@@ -145,11 +148,11 @@ pub record IsOpened (at : ℕ) (bytes new : List ℕ) (points : List Point) (sta
 held_open : (at : ℕ) (bytes : List ℕ) (points : List Point) (start : ℕ) (entries round : List Entry) → IsOpen at bytes points start entries round → held 0 bytes ≡ entries
 held_open at bytes points start entries round o = held_closed bytes points entries (closed at bytes points start entries round o)
 
-pub opens : (at : ℕ) (bytes new : List ℕ) (points : List Point) (start before : ℕ) → at ≤ LAST → length points ≡ (before + 15) / stride → before ≡ length (held 0 bytes) → IsClosed bytes points (held 0 bytes)
+pub opens : (at : ℕ) (bytes new : List ℕ) (points : List Point) (start before : ℕ) → at ≤ LAST → length points ≡ (before + 15) / STRIDE → before ≡ length (held 0 bytes) → IsClosed bytes points (held 0 bytes)
     → start ≡ length bytes → new ≡ bytes ++ body_of (round_of at []) → IsOpened at bytes new points start before
 opens at bytes new points start before low pointed counted c start_is is =
     let entries = held 0 bytes in
-    let o = opened at bytes new points entries start low (pointed ∙ ap (λ (n : ℕ). (n + 15) / stride) counted) c start_is is in
+    let o = opened at bytes new points entries start low (pointed ∙ ap (λ (n : ℕ). (n + 15) / STRIDE) counted) c start_is is in
     let same = held_open at new points start entries [] o in
     let none : drop before (held 0 new) ≡ [] = ap (λ (t : List Entry). drop before t) same ∙ drop_of_length-le entries (omega (arith, counted)) in
     record {
@@ -172,17 +175,17 @@ text_more text digits at round entry =
 pub length_empty_body : (at : ℕ) → length (body_of (round_of at [])) ≡ 14
 length_empty_body at =
     let payload = round_of at [] in
-    omega (arith, length-append (number 4 (length payload)) (payload ++ 0 ∷ []), length_number 4 (length payload), length-append (number 8 at ++ []) (0 ∷ []), length-append (number 8 at) [], length_number 8 at)
+    omega (arith, length-append (to_be_bytes w32 (length payload)) (payload ++ 0 ∷ []), length_four (length payload), length-append (number 8 at ++ []) (0 ∷ []), length-append (number 8 at) [], length_number 8 at)
 
 -- the entries of a point that is new
-new_point : (at number : ℕ) (text act : List ℕ) (es : List Entry) (entry : Entry) (p : Point) → p.place ≡ length text → p.moment ≡ at → at ≤ LAST → stride * number ≡ length es → IsPiece at act (entry ∷ []) at
+new_point : (at number : ℕ) (text act : List ℕ) (es : List Entry) (entry : Entry) (p : Point) → p.place ≡ length text → p.moment ≡ at → at ≤ LAST → STRIDE * number ≡ length es → IsPiece at act (entry ∷ []) at
     → IsPoint (text ++ act) (es ++ entry ∷ []) at number p
 new_point at number text act es entry p place moment low all piece = record {
   within = omega (arith, place, length-append text act);
   low = subst (λ (n : ℕ). n ≤ LAST) (sym moment) low;
   holds = λ more.
       let bytes : drop p.place (text ++ act) ≡ act = ap (λ (n : ℕ). drop n (text ++ act)) place ∙ drop-append_seam text act in
-      let entries : drop (stride * number) (es ++ entry ∷ []) ≡ entry ∷ [] = ap (λ (n : ℕ). drop n (es ++ entry ∷ [])) all ∙ drop-append_seam es (entry ∷ []) in
+      let entries : drop (STRIDE * number) (es ++ entry ∷ []) ≡ entry ∷ [] = ap (λ (n : ℕ). drop n (es ++ entry ∷ [])) all ∙ drop-append_seam es (entry ∷ []) in
       ap (λ (n : ℕ). held n (drop p.place (text ++ act) ++ more)) moment ∙ ap (λ (t : List ℕ). held at (t ++ more)) bytes ∙ piece more ∙ ap (λ (t : List Entry). t ++ held at more) (sym entries);
 }
 
@@ -198,14 +201,14 @@ get_last (q ∷ points) p d zero is = absurd (omega (arith, is))
 get_last (q ∷ points) p d (suc number) is = get_last points p d number (omega (arith, is))
 
 -- each point with one more entry, the new one where there is one included
-points_later : (at : ℕ) (text act : List ℕ) (es : List Entry) (entry : Entry) (points : List Point) (place : ℕ) (b : Bool) → eqb (length es % stride) 0 ≡ b → at ≤ LAST → length points ≡ (length es + 15) / stride
+points_later : (at : ℕ) (text act : List ℕ) (es : List Entry) (entry : Entry) (points : List Point) (place : ℕ) (b : Bool) → eqb (length es % STRIDE) 0 ≡ b → at ≤ LAST → length points ≡ (length es + 15) / STRIDE
     → place ≡ length text → IsPiece at act (entry ∷ []) at → ArePoints text es at points
     → ArePoints (text ++ act) (es ++ entry ∷ []) at (cond b (points ++ record { place = place; moment = at } ∷ []) points)
 points_later at text act es entry points place false test low pointed place_is piece are number d lt =
     point_later at at number text act es (entry ∷ []) (get_or points number d) (there points es number pointed lt) (are number d lt) piece
 points_later at text act es entry points place true test low pointed place_is piece are number d lt =
     let p : Point = record { place = place; moment = at } in
-    let round : length es % stride ≡ 0 = eqb-true (length es % stride) 0 test in
+    let round : length es % STRIDE ≡ 0 = eqb-true (length es % STRIDE) 0 test in
     elim (cases_lt number (length points)) [
       | inl old ↦
           subst (λ (q : Point). IsPoint (text ++ act) (es ++ entry ∷ []) at number q) (sym (get_front points p d number old))
@@ -227,7 +230,7 @@ IsPut start act old new = (text digits payload : List ℕ) → length text ≡ s
 long_text : (text digits : List ℕ) (at : ℕ) (round : List Entry) → length digits ≡ 4 → length (text ++ 0 ∷ (digits ++ round_of at round)) + 1 ≡ length (text ++ 0 ∷ body_of (round_of at round))
 long_text text digits at round four =
     let payload = round_of at round in
-    let mine = number 4 (length payload) in
+    let mine = to_be_bytes w32 (length payload) in
     omega (
       arith,
       length-append text (0 ∷ (digits ++ payload)),
@@ -235,23 +238,23 @@ long_text text digits at round four =
       four,
       length-append text (0 ∷ (mine ++ (payload ++ 0 ∷ []))),
       length-append mine (payload ++ 0 ∷ []),
-      length_number 4 (length payload),
+      length_four (length payload),
       length-append payload (0 ∷ []),
     )
 
 pushed : (at : ℕ) (bytes new : List ℕ) (points newer : List Point) (start place : ℕ) (es round : List Entry) (entry : Entry) → IsInRound at entry → IsOpen at bytes points start es round
-    → length points ≡ (length es + 15) / stride → newer ≡ cond (eqb (length es % stride) 0) (points ++ record { place = place; moment = at } ∷ []) points → place + 1 ≡ length bytes → IsPut start (act_in entry) bytes new
+    → length points ≡ (length es + 15) / STRIDE → newer ≡ cond (eqb (length es % STRIDE) 0) (points ++ record { place = place; moment = at } ∷ []) points → place + 1 ≡ length bytes → IsPut start (act_in entry) bytes new
     → IsOpen at new newer start (es ++ entry ∷ []) (round ++ entry ∷ [])
 pushed at bytes new points newer start place es round entry fits o pointed newer_is place_is put =
     let payload = round_of at round in
     let piece = piece_entry at entry o.low fits in
-    let whole : bytes ≡ (o.text ++ 0 ∷ []) ++ (number 4 (length payload) ++ (payload ++ 0 ∷ [])) = o.bytes_are ∙ sym (append_assoc o.text (0 ∷ []) (body_of payload)) in
+    let whole : bytes ≡ (o.text ++ 0 ∷ []) ++ (to_be_bytes w32 (length payload) ++ (payload ++ 0 ∷ [])) = o.bytes_are ∙ sym (append_assoc o.text (0 ∷ []) (body_of payload)) in
     let len : length (o.text ++ 0 ∷ []) ≡ start = omega (arith, length-append o.text (0 ∷ []), o.start_is) in
     record {
       text = o.text;
       low = o.low;
       start_is = o.start_is;
-      bytes_are = put (o.text ++ 0 ∷ []) (number 4 (length payload)) payload len (length_number 4 (length payload)) whole ∙ body_more o.text at round entry;
+      bytes_are = put (o.text ++ 0 ∷ []) (to_be_bytes w32 (length payload)) payload len (length_four (length payload)) whole ∙ body_more o.text at round entry;
       holds = λ digits four.
           subst (λ (t : List ℕ). IsPiece 0 t (es ++ entry ∷ []) at) (text_more o.text digits at round entry)
           (piece_then 0 at at (o.text ++ 0 ∷ (digits ++ payload)) (act_in entry) es (entry ∷ []) (o.holds digits four) piece);
@@ -259,8 +262,8 @@ pushed at bytes new points newer start place es round entry fits o pointed newer
           let text = o.text ++ 0 ∷ (digits ++ payload) in
           let here : place ≡ length text = omega (arith, place_is, ap length o.bytes_are, long_text o.text digits at round four) in
           subst (λ (l : List Point). ArePoints (o.text ++ 0 ∷ (digits ++ round_of at (round ++ entry ∷ []))) (es ++ entry ∷ []) at l) (sym newer_is)
-          (subst (λ (t : List ℕ). ArePoints t (es ++ entry ∷ []) at (cond (eqb (length es % stride) 0) (points ++ record { place = place; moment = at } ∷ []) points)) (text_more o.text digits at round entry)
-          (points_later at text (act_in entry) es entry points place (eqb (length es % stride) 0) refl o.low pointed here piece (o.points_are digits four)));
+          (subst (λ (t : List ℕ). ArePoints t (es ++ entry ∷ []) at (cond (eqb (length es % STRIDE) 0) (points ++ record { place = place; moment = at } ∷ []) points)) (text_more o.text digits at round entry)
+          (points_later at text (act_in entry) es entry points place (eqb (length es % STRIDE) 0) refl o.low pointed here piece (o.points_are digits four)));
       unused = λ none. absurd (omega (arith, ap length none, length-append round (entry ∷ [])));
     }
 
@@ -271,14 +274,14 @@ pub record IsPushed (at : ℕ) (bytes new : List ℕ) (points : List Point) (sta
   pub stands : IsOpen at new points start (held 0 new) (drop before (held 0 new))
 
 pub pushes : (at : ℕ) (bytes new : List ℕ) (points newer : List Point) (start before count place : ℕ) (entry : Entry) → IsInRound at entry → IsOpen at bytes points start (held 0 bytes) (drop before (held 0 bytes))
-    → count ≡ length (held 0 bytes) → before ≤ count → length points ≡ (count + 15) / stride → newer ≡ cond (eqb (count % stride) 0) (points ++ record { place = place; moment = at } ∷ []) points
+    → count ≡ length (held 0 bytes) → before ≤ count → length points ≡ (count + 15) / STRIDE → newer ≡ cond (eqb (count % STRIDE) 0) (points ++ record { place = place; moment = at } ∷ []) points
     → place + 1 ≡ length bytes → IsPut start (act_in entry) bytes new → IsPushed at bytes new newer start before entry
 pushes at bytes new points newer start before count place entry fits o counted le pointed newer_is place_is put =
     let es = held 0 bytes in
     let round = drop before es in
     let q =
-    pushed at bytes new points newer start place es round entry fits o (pointed ∙ ap (λ (n : ℕ). (n + 15) / stride) counted)
-    (newer_is ∙ ap (λ (n : ℕ). cond (eqb (n % stride) 0) (points ++ record { place = place; moment = at } ∷ []) points) counted) place_is put in
+    pushed at bytes new points newer start place es round entry fits o (pointed ∙ ap (λ (n : ℕ). (n + 15) / STRIDE) counted)
+    (newer_is ∙ ap (λ (n : ℕ). cond (eqb (n % STRIDE) 0) (points ++ record { place = place; moment = at } ∷ []) points) counted) place_is put in
     let more = held_open at new newer start (es ++ entry ∷ []) (round ++ entry ∷ []) q in
     let behind : drop before (held 0 new) ≡ round ++ entry ∷ [] = ap (λ (t : List Entry). drop before t) more ∙ drop-append-le before es (entry ∷ []) (omega (arith, counted, le)) in
     record {
@@ -322,9 +325,9 @@ pub start_within : (moment : Option ℕ) (bytes : List ℕ) (points : List Point
 start_within None bytes points start before some stands = absurd cc
 start_within (Some at) bytes points start before some o =
     let payload = round_of at (drop before (held 0 bytes)) in
-    let mine = number 4 (length payload) in (
+    let mine = to_be_bytes w32 (length payload) in (
       omega (arith, o.start_is),
-      omega (arith, o.start_is, ap length o.bytes_are, length-append o.text (0 ∷ body_of payload), length-append mine (payload ++ 0 ∷ []), length_number 4 (length payload), length-append payload (0 ∷ [])),
+      omega (arith, o.start_is, ap length o.bytes_are, length-append o.text (0 ∷ body_of payload), length-append mine (payload ++ 0 ∷ []), length_four (length payload), length-append payload (0 ∷ [])),
     )
 
 -- an entry takes a byte at least
@@ -352,12 +355,12 @@ act_some at entry low fits =
     omega (arith, lt, length-append (act_in entry) [])
 
 -- how many points there are with one more entry
-pub pointed_more : (points newer : List Point) (count : ℕ) (p : Point) → length points ≡ (count + 15) / stride → newer ≡ cond (eqb (count % stride) 0) (points ++ p ∷ []) points → length newer ≡ (count + 1 + 15) / stride
-pointed_more points newer count p pointed is = by_test (eqb (count % stride) 0) refl is
+pub pointed_more : (points newer : List Point) (count : ℕ) (p : Point) → length points ≡ (count + 15) / STRIDE → newer ≡ cond (eqb (count % STRIDE) 0) (points ++ p ∷ []) points → length newer ≡ (count + 1 + 15) / STRIDE
+pointed_more points newer count p pointed is = by_test (eqb (count % STRIDE) 0) refl is
   where
-    by_test : (b : Bool) → eqb (count % stride) 0 ≡ b → newer ≡ cond b (points ++ p ∷ []) points → length newer ≡ (count + 1 + 15) / stride
-    by_test true test e = omega (arith, eqb-true (count % stride) 0 test, ap length e, length-append points (p ∷ []), pointed)
-    by_test false test e = omega (arith, eqb-false (count % stride) 0 test, ap length e, pointed)
+    by_test : (b : Bool) → eqb (count % STRIDE) 0 ≡ b → newer ≡ cond b (points ++ p ∷ []) points → length newer ≡ (count + 1 + 15) / STRIDE
+    by_test true test e = omega (arith, eqb-true (count % STRIDE) 0 test, ap length e, length-append points (p ∷ []), pointed)
+    by_test false test e = omega (arith, eqb-false (count % STRIDE) 0 test, ap length e, pointed)
 
 -- ---- the body, and an entry
 
@@ -367,29 +370,34 @@ body_is at bytes points start es round o =
     let len : length (o.text ++ 0 ∷ []) ≡ start = omega (arith, length-append o.text (0 ∷ []), o.start_is) in
     ap (λ (t : List ℕ). drop start t) (o.bytes_are ∙ sym (append_assoc o.text (0 ∷ []) body)) ∙ drop_at (o.text ++ 0 ∷ []) body start len
 
+pub lent : (moment : Option ℕ) (bytes : List ℕ) (points : List Point) (start before : ℕ) → 0 < length (round_in moment before (held 0 bytes)) → Stands moment bytes points start before (held 0 bytes)
+    → drop start bytes ≡ body_of (round_of (unwrap_or moment 0) (round_in moment before (held 0 bytes)))
+lent None bytes points start before some stands = absurd (omega (arith, some))
+lent (Some at) bytes points start before some o = body_is at bytes points start (held 0 bytes) (drop before (held 0 bytes)) o
+
 -- an entry, by its point
 pub record IsFoundBy (bytes : List ℕ) (index : ℕ) (p : Point) : Type 0 where
   pub within : p.place ≤ length bytes
   pub low : p.moment ≤ LAST
-  pub there : index % stride < length (held p.moment (drop p.place bytes))
-  pub same : (d : Entry) → get_or (held p.moment (drop p.place bytes)) (index % stride) d ≡ get_or (held 0 bytes) index d
+  pub there : index % STRIDE < length (held p.moment (drop p.place bytes))
+  pub same : (d : Entry) → get_or (held p.moment (drop p.place bytes)) (index % STRIDE) d ≡ get_or (held 0 bytes) index d
 
-pub found_by : (bytes : List ℕ) (points : List Point) (index : ℕ) (d : Point) → IsClosed bytes points (held 0 bytes) → index / stride < length points → index < length (held 0 bytes) → IsFoundBy bytes index (get_or points (index / stride) d)
+pub found_by : (bytes : List ℕ) (points : List Point) (index : ℕ) (d : Point) → IsClosed bytes points (held 0 bytes) → index / STRIDE < length points → index < length (held 0 bytes) → IsFoundBy bytes index (get_or points (index / STRIDE) d)
 found_by bytes points index d c pointed inside =
-    let number = index / stride in
+    let number = index / STRIDE in
     let es = held 0 bytes in
     let p = get_or points number d in
     let point = c.points_are number d pointed in
     let long : length bytes ≡ length c.text + 1 = ap length c.bytes_are ∙ length-append c.text (0 ∷ []) in
     let cut : drop p.place bytes ≡ drop p.place c.text ++ 0 ∷ [] = ap (λ (t : List ℕ). drop p.place t) c.bytes_are ∙ drop-append-le p.place c.text (0 ∷ []) point.within in
-    let holds : held p.moment (drop p.place bytes) ≡ drop (stride * number) es =
-    ap (held p.moment) cut ∙ point.holds (0 ∷ []) ∙ ap (λ (t : List Entry). drop (stride * number) es ++ t) (held_end c.to) ∙ append-nil (drop (stride * number) es) in
-    let whole : stride * number + index % stride ≡ index = omega arith in
+    let holds : held p.moment (drop p.place bytes) ≡ drop (STRIDE * number) es =
+    ap (held p.moment) cut ∙ point.holds (0 ∷ []) ∙ ap (λ (t : List Entry). drop (STRIDE * number) es ++ t) (held_end c.to) ∙ append-nil (drop (STRIDE * number) es) in
+    let whole : STRIDE * number + index % STRIDE ≡ index = omega arith in
     record {
       within = omega (arith, point.within, long);
       low = point.low;
-      there = omega (arith, ap length holds, length-drop (stride * number) es, inside, whole);
-      same = λ e. ap (λ (t : List Entry). get_or t (index % stride) e) holds ∙ get_or-drop (stride * number) es (index % stride) e ∙ ap (λ (n : ℕ). get_or es n e) whole;
+      there = omega (arith, ap length holds, length-drop (STRIDE * number) es, inside, whole);
+      same = λ e. ap (λ (t : List Entry). get_or t (index % STRIDE) e) holds ∙ get_or-drop (STRIDE * number) es (index % STRIDE) e ∙ ap (λ (n : ℕ). get_or es n e) whole;
     }
 
 -- whether a round is open or not, its bytes are whole

@@ -1,13 +1,13 @@
 -- Bytes that hold entries, piece by piece.
 use Rattle.std.proofs.Common.{◌≡◌, ℕ, zero, suc, ◌+◌, ◌-◌, ◌*◌, ◌<◌, ◌≤◌, lit<, lit≤, List, [], ◌∷◌, ◌++◌, length, take, drop, get_or, Option, Some, None, Result, Ok, Err, Vec, Global, refl, sym, ap, subst, ◌∙◌, append_assoc, arith}
 use Rattle.std.specs.Prelude.{slice_set, slice_index_or}
-use Rattle.std.specs.Int.{w64, to_be_bytes}
+use Rattle.std.specs.Int.{w32, w64, to_be_bytes}
 use Rattle.std.proofs.lemmas.List.{append-nil, length-append, set-append_right, take_at}
 use Rattle.op_record.specs.Fields.{number}
 use Rattle.op_record.specs.Rounds.{round_of}
 use Rattle.op_record.specs.Packing.{body_of}
 use Rattle.op_record.specs.Writing.{Puts}
-use Rattle.op_record.proofs.LengthLaws.{length_number}
+use Rattle.op_record.proofs.LengthLaws.{length_number, four_is}
 
 -- ---- the body of a round without entries
 
@@ -16,7 +16,7 @@ empty_body at x y p =
     let payload = 2 ∷ (number 8 at ++ []) in
     let nine : 9 ≡ length payload = omega (arith, length-append (number 8 at) [], length_number 8 at) in
     let rest : 2 ∷ (number 8 at ++ (0 ∷ [])) ≡ payload ++ 0 ∷ [] = ap (λ (t : List ℕ). 2 ∷ (t ++ 0 ∷ [])) (sym (append-nil (number 8 at))) in
-    subst (λ (t : List ℕ). Puts t x y) (ap (λ (n : ℕ). number 4 n ++ (2 ∷ (number 8 at ++ (0 ∷ [])))) nine ∙ ap (λ (t : List ℕ). number 4 (length payload) ++ t) rest) p
+    subst (λ (t : List ℕ). Puts t x y) (ap (λ (n : ℕ). number 4 n ++ (2 ∷ (number 8 at ++ (0 ∷ [])))) nine ∙ ap (λ (t : List ℕ). number 4 (length payload) ++ t) rest ∙ ap (λ (t : List ℕ). t ++ (payload ++ 0 ∷ [])) (four_is (length payload))) p
 
 -- ---- the bytes of a length
 
@@ -43,8 +43,7 @@ four_written text digits rest s a b c d len four =
 
 -- the four lowest of eight bytes
 pub low_digits : (digits : List ℕ) (n : ℕ) (rest : List ℕ) → digits ≡ to_be_bytes w64 n
-    → slice_index_or digits 4 0 ∷ slice_index_or digits 5 0 ∷ slice_index_or digits 6 0 ∷ slice_index_or digits 7 0 ∷ rest ≡ number 4 n ++ rest
-unfolding number
+    → slice_index_or digits 4 0 ∷ slice_index_or digits 5 0 ∷ slice_index_or digits 6 0 ∷ slice_index_or digits 7 0 ∷ rest ≡ to_be_bytes w32 n ++ rest
 low_digits digits n rest is =
     ap (λ (b : List ℕ). slice_index_or b 4 0 ∷ slice_index_or b 5 0 ∷ slice_index_or b 6 0 ∷ slice_index_or b 7 0 ∷ rest) is
 

@@ -4,6 +4,7 @@ use Rattle.op_time.specs.declared.TheConstants.{LAST}
 use Rattle.op_model.specs.declared.act.Entry.{Entry}
 use Rattle.op_record.specs.Rounds.{round_of}
 use Rattle.op_record.specs.Packing.{PackedValue, held, body_of}
+use Rattle.op_record.specs.declared.packed.TheConstants.{STRIDE}
 use Rattle.op_record.specs.declared.packed.Point.{Point}
 use Rattle.op_record.specs.declared.packed.Packed.TheInside.{Inside}
 
@@ -11,15 +12,11 @@ use Rattle.op_record.specs.declared.packed.Packed.TheInside.{Inside}
 abbrev pub IsPiece : (from : ℕ) → List ℕ → List Entry → (to : ℕ) → Type 0
 IsPiece from bytes entries to = (more : List ℕ) → held from (bytes ++ more) ≡ entries ++ held to more
 
--- one point for so many entries
-abbrev pub stride : ℕ
-stride = 16
-
 -- the point of this number: from its place on, and within a round of its moment, the bytes hold the entries from its own on
 pub record IsPoint (text : List ℕ) (entries : List Entry) (to number : ℕ) (point : Point) : Type 0 where
   pub within : point.place ≤ length text
   pub low : point.moment ≤ LAST
-  pub holds : IsPiece point.moment (drop point.place text) (drop (stride * number) entries) to
+  pub holds : IsPiece point.moment (drop point.place text) (drop (STRIDE * number) entries) to
 
 abbrev pub ArePoints : List ℕ → List Entry → ℕ → List Point → Type 0
 ArePoints text entries to points = (number : ℕ) (d : Point) → number < length points → IsPoint text entries to number (slice_index_or points number d)
@@ -64,7 +61,7 @@ pub record IsKept (p : Inside) : Type 0 where
   pub before : p.before ≤ p.count
   pub some : 0 < vec_len p.bytes
   pub few : p.count ≤ vec_len p.bytes
-  pub pointed : length p.points.items ≡ (p.count + 15) / stride
+  pub pointed : length p.points.items ≡ (p.count + 15) / STRIDE
   pub room : vec_len p.bytes + p.room ≤ vec_capacity p.bytes
-  pub points_room : (p.count + p.room + 15) / stride ≤ vec_capacity p.points
+  pub points_room : (p.count + p.room + 15) / STRIDE ≤ vec_capacity p.points
   pub stands : Stands p.moment p.bytes.items p.points.items p.start p.before (entries_of p)

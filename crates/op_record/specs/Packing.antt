@@ -1,9 +1,9 @@
 -- A history that is kept as the bytes of its rounds: what is seen of it.
 use Rattle.std.specs.Prelude.{ℕ, zero, suc, List, [], ◌∷◌, ◌++◌, length, Option, Result, Ok, Err}
+use Rattle.std.specs.Int.{w32, to_be_bytes}
 use Rattle.std.specs.Option.{unwrap_or}
 use Rattle.op_model.specs.declared.act.Entry.{Entry}
 use Rattle.op_record.specs.declared.fault.Fault.{Fault}
-use Rattle.op_record.specs.Fields.{number}
 use Rattle.op_record.specs.Readers.{Reader, bind, byte_between, bytes_at}
 use Rattle.op_record.specs.Rows.{moment_at, entry_of_round_at}
 use Rattle.op_record.specs.Rounds.{round_of}
@@ -24,7 +24,7 @@ payload_of p = round_of (unwrap_or p.moment 0) p.round
 
 -- what a commit asks for: the payload's length in four bytes, the payload, and a closed gate
 abbrev pub body_of : List ℕ → List ℕ
-body_of payload = number 4 (length payload) ++ (payload ++ 0 ∷ [])
+body_of payload = to_be_bytes w32 (length payload) ++ (payload ++ 0 ∷ [])
 
 -- ---- the entries that bytes hold: a 0, and behind it a round as it stands in the journal, again and again, and a 0 at the end
 

@@ -1,7 +1,8 @@
 //! Fields of a record, read from left to right: each gives its value and the bytes after it.
 
-ghost use Rattle.std.specs.Prelude.{◌≡◌, ◌≤◌, [], ◌∷◌, ◌<◌, length, IfOk, IfSome, MatchOption};
+ghost use Rattle.std.specs.Prelude.{◌≡◌, ◌≤◌, [], ◌∷◌, ◌++◌, ◌<◌, ◌^◌, length, IfOk, IfSome, MatchOption};
 ghost use Rattle.op_time.specs.declared.TheConstants.{LAST};
+ghost use Rattle.op_record.specs.Fields.{number};
 ghost use Rattle.op_record.specs.Readers.{Gives, BeginsWithout, byte_between, number_at, bytes_at, text_at, option_at};
 ghost use Rattle.op_record.specs.Rows.{u32_at, u64_at, moment_at, word_at, account_at, mode_at, reason_at, outcome_at};
 
@@ -49,9 +50,23 @@ pub(crate) fn byte_between(bytes: &[u8], low: u8, high: u8) -> Result<(u8, &[u8]
     }
 }
 
-/// A number of `width` bytes, the highest first, that is at most `limit`. It is read digit by digit, so that the first
-/// byte is found with which no such number can go on.
-pub(crate) fn number_at(bytes: &[u8], width: u32, limit: u64) -> Result<(u64, &[u8]), ReadError>
+/// The number that the first `width` bytes are, the highest first, and the bytes after them. `None` where there are fewer.
+fn whole_at(bytes: &[u8], width: u32) -> Option<(u64, &[u8])>
+    requires { width ≤ 8 }
+    ensures { IfSome result (λ x. (x.0 < 256 ^ width) × (bytes.now ≡ number width x.0 ++ x.1.now)) }
+{
+    let mut number = 0u64;
+    let mut rest = bytes;
+    for _at in 0..width {
+        let (digit, after) = first_of(rest)?;
+        number = number * 256 + u64::from(digit);
+        rest = after;
+    }
+    Some((number, rest))
+}
+
+/// A number as `number_at` reads it, digit by digit, so that the first byte is found with which no such number can go on.
+fn digits_at(bytes: &[u8], width: u32, limit: u64) -> Result<(u64, &[u8]), ReadError>
     requires { width ≤ 8 }
     ensures gives { Gives (λ x. (x.0, x.1.now)) result (number_at width limit bytes.now) }
     ensures low { IfOk result (λ x. x.0 ≤ limit) }
@@ -71,6 +86,21 @@ pub(crate) fn number_at(bytes: &[u8], width: u32, limit: u64) -> Result<(u64, &[
         rest = after;
     }
     Ok((number, rest))
+}
+
+/// A number of `width` bytes, the highest first, that is at most `limit`. Only where there is none is it looked at digit by
+/// digit, since that divides for each.
+pub(crate) fn number_at(bytes: &[u8], width: u32, limit: u64) -> Result<(u64, &[u8]), ReadError>
+    requires { width ≤ 8 }
+    ensures gives { Gives (λ x. (x.0, x.1.now)) result (number_at width limit bytes.now) }
+    ensures low { IfOk result (λ x. x.0 ≤ limit) }
+{
+    if let Some((number, rest)) = whole_at(bytes, width) {
+        if number <= limit {
+            return Ok((number, rest));
+        }
+    }
+    digits_at(bytes, width, limit)
 }
 
 /// So many bytes.

@@ -2,6 +2,7 @@
 
 ghost use Rattle.std.specs.Prelude.{◌≡◌, ◌≤◌, ◌*◌, length, IfSome};
 ghost use Rattle.std.specs.List.{flat_map};
+ghost use Rattle.op_record.specs.declared.TheConstants.{ACT_LIMIT};
 ghost use Rattle.op_record.specs.Fields.{text, number, optional, limits, item, items, cap, finish};
 ghost use Rattle.op_record.specs.Records.{act_of, record_of};
 ghost use Rattle.op_record.specs.Recordable.{IsShort, AreLimits, IsFinish, IsItem, AreAbove, AreItems, IsWithinLimits, IsWritable};
@@ -161,7 +162,7 @@ fn some_finish_length(value: &Option<Finish>) -> usize
 pub(crate) fn act_length(act: &Act) -> usize
     requires { IsWithinLimits act.now }
     ensures is { result ≡ length (act_of act.now) }
-    ensures low { result ≤ 10000 }
+    ensures low { result ≤ ACT_LIMIT }
 {
     match act {
         Act::OriginSet { origin } => 1 + text_length(origin.as_bytes()),

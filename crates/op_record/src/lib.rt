@@ -29,6 +29,9 @@ pub use round_writing::{round_length, write_round};
 pub use rounds::read_round;
 pub use writing::write_entry;
 
+/// At most so many bytes are the kind of an act and its fields.
+pub const ACT_LIMIT: usize = 10_000;
+
 /// Why bytes are no record.
 #[derive(Clone, Copy, Debug, PartialEq, Eq)]
 pub enum RecordFault {

@@ -1,9 +1,11 @@
 //! A history that is kept as the bytes of its rounds.
 
-ghost use Rattle.std.specs.Prelude.{◌≡◌, ◌≤◌, ◌<◌, ◌+◌, ◌-◌, ◌*◌, ◌/◌, ◌%◌, ◌^◌, ◌==◌, ◌++◌, ◌∷◌, [], max, length, if◌then◌else◌, Some, None, IsSome, IfOk, OnOk, OnErr, IsOk, slice_index_or, vec_len, vec_capacity};
+ghost use Rattle.std.specs.Prelude.{◌≡◌, ◌≤◌, ◌<◌, ◌+◌, ◌-◌, ◌*◌, ◌/◌, ◌%◌, ◌^◌, ◌==◌, ◌++◌, ◌∷◌, [], max, length, if◌then◌else◌, Some, None, is_some, IsSome, IfOk, OnOk, OnErr, IsOk, slice_index_or, vec_len, vec_capacity};
 ghost use Rattle.op_record.specs.Recordable.{IsWritable, FitsTypes};
 ghost use Rattle.op_record.specs.Rounds.{act_in};
 ghost use Rattle.op_record.specs.Packing.{PackedValue, payload_of, body_of};
+ghost use Rattle.op_record.specs.declared.packed.TheConstants.{STRIDE};
+ghost use Rattle.op_record.specs.declared.TheConstants.{ACT_LIMIT};
 
 use crate::lengths::act_length;
 use crate::packed_bytes::{CLOSED, put_empty_round, put_in_round};
@@ -61,7 +63,7 @@ impl Model for Packed {
 fn make_room(bytes: &mut Vec<u8>, points: &mut Vec<Point>, space: usize) -> Result<(), AllocError>
     ensures bytes { bytes.new.items ≡ bytes.old.items }
     ensures points { points.new.items ≡ points.old.items }
-    ensures room { OnOk result ((vec_len bytes.new + space ≤ vec_capacity bytes.new) × (vec_len points.new + space / 16 + 1 ≤ vec_capacity points.new)) }
+    ensures room { OnOk result ((vec_len bytes.new + space ≤ vec_capacity bytes.new) × (vec_len points.new + space / STRIDE + 1 ≤ vec_capacity points.new)) }
     ensures kept { vec_capacity bytes.old ≤ vec_capacity bytes.new }
     ensures points_kept { vec_capacity points.old ≤ vec_capacity points.new }
 {
@@ -73,8 +75,8 @@ fn make_room(bytes: &mut Vec<u8>, points: &mut Vec<Point>, space: usize) -> Resu
 
 /// Adds the point of an entry, if it is one that has a point.
 fn add_point(points: &mut Vec<Point>, count: usize, place: usize, at: Moment)
-    requires { count % 16 ≡ 0 → vec_len points.old < vec_capacity points.old }
-    ensures added { points.new.items ≡ (if count % 16 == 0 then points.old.items ++ record { place = place; moment = at } ∷ [] else points.old.items) }
+    requires { count % STRIDE ≡ 0 → vec_len points.old < vec_capacity points.old }
+    ensures added { points.new.items ≡ (if count % STRIDE == 0 then points.old.items ++ record { place = place; moment = at } ∷ [] else points.old.items) }
     ensures kept { vec_capacity points.new ≡ vec_capacity points.old }
 {
     if count % STRIDE == 0 {
@@ -103,9 +105,17 @@ impl Packed {
         })
     }
 
-    /// How many entries there are.
+    /// Whether a round is open.
+    pub fn is_open(&self) -> bool
+        ensures { result ≡ is_some self.now.moment }
+    {
+        self.moment.is_some()
+    }
+
+    /// How many entries there are: fewer than 2^63, since each takes a byte at least.
     pub fn count(&self) -> u64
-        ensures { result ≡ length self.now.entries }
+        ensures value { result ≡ length self.now.entries }
+        ensures few { result < 2 ^ 63 }
     {
         self.count as u64
     }
@@ -147,7 +157,7 @@ impl Packed {
 
     /// Puts an entry behind the others. A round is open, and the entry has its moment; the entry's texts are within their
     /// limits, and its items, numbers and outcome are those of a record. It takes no memory where the spare room covers
-    /// `entry_length` less 8, and lowers the room by that. An `Err` changes nothing, and comes only where memory is refused.
+    /// `entry_length` less 8, at most `ACT_LIMIT`, and lowers the room by that. An `Err` changes nothing, and comes only where memory is refused.
     pub fn push(&mut self, entry: &Entry) -> Result<(), AllocError>
         requires round { self.old.moment ≡ Some entry.now.at }
         requires writable { IsWritable entry.now }
@@ -155,6 +165,7 @@ impl Packed {
         ensures ok { OnOk result (self.new ≡ record { entries = self.old.entries ++ entry.now ∷ []; moment = self.old.moment; round = self.old.round ++ entry.now ∷ []; room = self.old.room - length (act_in entry.now) }) }
         ensures err { OnErr result (self.new ≡ self.old) }
         ensures room { length (act_in entry.now) ≤ self.old.room → IsOk result }
+        ensures short { length (act_in entry.now) ≤ ACT_LIMIT }
     {
         let taken = act_length(&entry.act);
         self.reserve(taken)?;

@@ -1,8 +1,8 @@
 //! The bytes of an open round: a closed gate behind its payload, and the payload's length in front.
 
 ghost use Rattle.std.specs.Prelude.{◌≡◌, ◌≤◌, ◌<◌, ◌+◌, ◌-◌, ◌++◌, ◌∷◌, [], ℕ, List, length, drop, vec_len, vec_capacity};
+ghost use Rattle.std.specs.Int.{w32, to_be_bytes};
 ghost use Rattle.op_time.specs.declared.TheConstants.{LAST};
-ghost use Rattle.op_record.specs.Fields.{number};
 ghost use Rattle.op_record.specs.Recordable.{IsWithinLimits};
 ghost use Rattle.op_record.specs.Records.{act_of};
 ghost use Rattle.op_record.specs.Rounds.{round_of};
@@ -24,7 +24,7 @@ const EMPTY_PAYLOAD: u32 = 9;
 fn put_length(bytes: &mut Vec<u8>, start: usize, count: usize)
     requires { start + 4 ≤ length bytes.old.items }
     ensures put { (text digits rest : List ℕ) → length text ≡ start → length digits ≡ 4 → bytes.old.items ≡ text ++ (digits ++ rest)
-        → bytes.new.items ≡ text ++ (number 4 count ++ rest) }
+        → bytes.new.items ≡ text ++ (to_be_bytes w32 count ++ rest) }
     ensures len { vec_len bytes.new ≡ vec_len bytes.old }
     ensures kept { vec_capacity bytes.new ≡ vec_capacity bytes.old }
 {

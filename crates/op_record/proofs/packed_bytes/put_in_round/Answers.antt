@@ -1,6 +1,6 @@
 use Rattle.std.proofs.Common.{◌≡◌, ◌∙◌, ◌+◌, ◌-◌, ◌++◌, ◌∷◌, ◌≤◌, [], ℕ, List, ap, arith, length, take, vec_len, vec_capacity}
 use Rattle.std.proofs.lemmas.List.{length-append}
-use Rattle.op_record.specs.Fields.{number}
+use Rattle.std.specs.Int.{w32, to_be_bytes}
 use Rattle.op_record.specs.Records.{act_of}
 use Rattle.op_record.proofs.Pieces.{popped, appended}
 use Rattle.op_record.proofs.packed_bytes.put_in_round.Goals as goal
@@ -29,4 +29,4 @@ returns-clause-put c = λ text digits payload len four is.
     ) in
     let count : c.len.result - c.args.start - 5 ≡ length (payload ++ act) = omega (arith, all, len, c.len.ensures, c.put_u8.new.out.ok.0) in
     c.put_length.ensures.put text digits ((payload ++ act) ++ 0 ∷ []) len four whole
-    ∙ ap (λ (n : ℕ). text ++ (number 4 n ++ ((payload ++ act) ++ 0 ∷ []))) count
+    ∙ ap (λ (n : ℕ). text ++ (to_be_bytes w32 n ++ ((payload ++ act) ++ 0 ∷ []))) count

@@ -5,7 +5,7 @@ use Rattle.op_model.specs.declared.act.Entry.{Entry}
 use Rattle.op_record.specs.declared.packed.Point.{Point}
 use Rattle.op_record.specs.declared.packed.Packed.TheInside.{Inside}
 use Rattle.op_record.specs.Packing.{PackedValue, held}
-use Rattle.op_record.specs.PackedInside.{IsKept, packed_of, stride}
+use Rattle.op_record.specs.PackedInside.{IsKept, packed_of}
 use Rattle.op_record.proofs.PackedSteps.{IsFoundBy, found_by, whole_bytes}
 use Rattle.op_record.proofs.packed.Packed.entry_at.Goals as goal
 

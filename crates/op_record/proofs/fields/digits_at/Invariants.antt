@@ -1,6 +1,6 @@
 use Rattle.std.proofs.Common.{◌≡◌, ◌-◌, ◌^◌, ◌<◌, ◌≤◌}
 use Rattle.op_record.specs.Readers.{digits_at}
-use Rattle.op_record.proofs.fields.number_at.Given as goal
+use Rattle.op_record.proofs.fields.digits_at.Given as goal
 
 abbrev pub invariant-loop-at : goal.invariant-loop-at
 invariant-loop-at l = record {
