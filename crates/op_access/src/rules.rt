@@ -6,16 +6,22 @@ ghost use Rattle.op_model.specs.declared.act.Entry.{Entry};
 ghost use Rattle.op_model.specs.declared.row.GrantRow.{GrantRow};
 ghost use Rattle.op_access.specs.Rules.{AreFactsOf, decision, decision_of, rule_of};
 
+use thiserror::Error;
+
 /// Which limit of a grant a spending breaks. They are looked at in this order.
-#[derive(Clone, Copy, Debug, PartialEq, Eq)]
+#[derive(Clone, Copy, Debug, PartialEq, Eq, Error)]
 pub enum SpendFault {
     /// The limits name another receiver.
+    #[error("the limits name another receiver")]
     LimitReceiver,
     /// The amount of the limits is in another asset.
+    #[error("the limit is in another asset")]
     LimitAsset,
     /// The moment lies in no interval of the limits.
+    #[error("the moment is outside the interval of the limits")]
     OutsideInterval,
     /// The amount of the limits would be passed in this interval.
+    #[error("the limit would be passed in this interval")]
     OverLimit,
 }
 

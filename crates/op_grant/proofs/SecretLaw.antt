@@ -16,7 +16,7 @@ use Rattle.op_grant.specs.Rows.{asked_row, decided, proceeded_row, cancelled, ro
 use Rattle.op_grant.specs.declared.fault.Proceeded.{Proceeded}
 use Rattle.op_grant.specs.declared.fault.Proceeded.TheVariants as answers
 use Rattle.op_grant.specs.Runs.{Drawing, IsDrawing, Call, CanCall, AreCalls, after_call, after_calls, AreApart, HaveOwnSecrets}
-use Rattle.op_grant.specs.Runs.Call.{Requested, Decided, Continued, Cancelled, Rotated, Revoked, Spent, GivenBack}
+use Rattle.op_grant.specs.Runs.Call.{Requested, Decided, Continued, Cancelled, Rotated, Revoked, Reserved, Spent, GivenBack}
 use Rattle.op_grant.proofs.TokenLists.{all_at}
 use Rattle.op_grant.proofs.Indexing.{Texts, with_text, number_cases, access_before, row_at}
 use Rattle.op_grant.proofs.Numbered.{nth-changed, nth-other, map-with_item, map-unchanged, nth_either, nth-map, of_map}
@@ -231,6 +231,7 @@ secrets_call value (Rotated n t token drawing) can h =
       reference = own_same Interaction (λ row. row.reference) f rows n (λ r. refl) h.reference;
     }
 secrets_call value (Revoked n token) can h = secrets_same revoked value.rows n (λ r. refl) (λ r. refl) (λ r. refl) (λ r. refl) h
+secrets_call value (Reserved n j) can h = h
 secrets_call value (Spent n j v) can h = subst HaveSecrets (sym (rows_stay (cap_in value n) value n j (spent_in value n j + v))) h
 secrets_call value (GivenBack n j v) can h = h
 

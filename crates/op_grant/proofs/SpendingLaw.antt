@@ -1,5 +1,5 @@
 -- What was spent, behind a list of calls.
-use Rattle.std.proofs.Common.{◌≡◌, ℕ, ◌+◌, ◌-◌, ◌≤◌, Bool, true, false, cond, List, [], ◌∷◌, refl, sym, ap, subst, ◌∙◌, arith, IsTrue, sum_by}
+use Rattle.std.proofs.Common.{◌≡◌, ℕ, ◌+◌, ◌-◌, ◌≤◌, Bool, true, false, cond, List, [], ◌∷◌, refl, sym, ap, subst, ◌∙◌, arith, add-zero, IsTrue, sum_by}
 use Rattle.std.specs.Prelude.{Some, None, ◌==◌, ◌&&◌, not, nat_lt, is_some, unwrap_or, MatchOption}
 use Rattle.std.specs.Option.{option_map, option_map_or, option_and_then}
 use Rattle.std.specs.Map.{lookup, set_value}
@@ -11,13 +11,13 @@ use Rattle.op_model.specs.History.{nth, changed_at}
 use Rattle.op_model.specs.Grants.{cap_of}
 use Rattle.op_model.specs.declared.grant.Cap.{Cap}
 use Rattle.op_model.specs.declared.row.GrantRow.{GrantRow}
-use Rattle.op_grant.specs.Value.{GrantsValue, no_grants, has_row, with_row, cap_in, by_grant, counter_of, spent_in, with_spent, spent_less}
+use Rattle.op_grant.specs.Value.{GrantsValue, no_grants, has_row, with_row, cap_in, by_grant, counter_of, spent_in, with_spent, with_counter, spent_less}
 use Rattle.op_grant.specs.Limits.{covers_spending, passes_cap}
 use Rattle.op_grant.specs.Rows.{proceeded_row}
 use Rattle.op_grant.specs.declared.fault.Proceeded.{Proceeded}
 use Rattle.op_grant.specs.declared.fault.Proceeded.TheVariants as answers
 use Rattle.op_grant.specs.Runs.{Call, CanCall, AreCalls, after_call, after_calls, spent_by, given_back_by, IsSpentSum, SpendingIsSum}
-use Rattle.op_grant.specs.Runs.Call.{Requested, Decided, Continued, Cancelled, Rotated, Revoked, Spent, GivenBack}
+use Rattle.op_grant.specs.Runs.Call.{Requested, Decided, Continued, Cancelled, Rotated, Revoked, Reserved, Spent, GivenBack}
 use Rattle.op_grant.proofs.Counters.{Key, Counters, tested_key, own_key, lookup-insert_entry, lookup-set_value, lookup-set_other}
 use Rattle.op_grant.proofs.MaySpend.{set_value_none}
 use Rattle.op_grant.proofs.Numbered.{nth-with_item, nth-append}
@@ -49,6 +49,7 @@ has_row-after value (Continued m t token reference drawing answer) n h = row_sta
 has_row-after value (Cancelled m token) n h = row_stays value _ m n h
 has_row-after value (Rotated m t token drawing) n h = row_stays value _ m n h
 has_row-after value (Revoked m token) n h = row_stays value _ m n h
+has_row-after value (Reserved m k) n h = h
 has_row-after value (Spent m k v) n h = subst (λ rows. IsTrue (is_some (nth rows n))) (sym (rows_stay (cap_in value m) value m k (spent_in value m k + v))) h
 has_row-after value (GivenBack m k v) n h = h
 
@@ -78,6 +79,7 @@ cap_in-after value (Continued m t token reference drawing answer) n h =
 cap_in-after value (Cancelled m token) n h = cap_stays value _ m n (λ r. refl)
 cap_in-after value (Rotated m t token drawing) n h = cap_stays value _ m n (λ r. refl)
 cap_in-after value (Revoked m token) n h = cap_stays value _ m n (λ r. refl)
+cap_in-after value (Reserved m k) n h = refl
 cap_in-after value (Spent m k v) n h = ap (λ rows. option_and_then (λ row. cap_of row.items) (nth rows n)) (rows_stay (cap_in value m) value m k (spent_in value m k + v))
 cap_in-after value (GivenBack m k v) n h = refl
 
@@ -104,7 +106,7 @@ keys_same m k n j h =
     (same_number m n parts.0, same_number k j parts.1)
 
 -- the test on keys is the one on their parts
-key_test : (m k n j : ℕ) (b : Bool) → is_at (by_grant (n, j)) (m, k) ≡ b → ((m == n) && (k == j)) ≡ b
+pub key_test : (m k n j : ℕ) (b : Bool) → is_at (by_grant (n, j)) (m, k) ≡ b → ((m == n) && (k == j)) ≡ b
 key_test m k n j true h =
     let same : (n, j) ≡ (m, k) = tested_key (n, j) (m, k) h in
     let first : n ≡ m = ap (λ p. p.0) same in
@@ -134,6 +136,16 @@ counted_more value m k n j v =
     ap (λ o. unwrap_or o 0 + 0) (lookup-insert_entry (n, j) (m, k) value.spent (spent_in value m k + v))
     ∙ spent_step b value m k n j v refl ∙ ap (λ c. spent_in value n j + cond c v 0) (sym (key_test m k n j b refl))
 
+kept_by : (b : Bool) (v : ℕ) → v ≡ 0 → cond b v 0 ≡ 0
+kept_by true v h = h
+kept_by false v h = refl
+
+-- a counter that is entered changes nothing of what was spent
+pub counter_kept : (value : GrantsValue) (m k n j : ℕ) → spent_in (with_counter value m k) n j + 0 ≡ spent_in value n j + 0
+counter_kept value m k n j =
+    ap (λ v. spent_in (with_spent value m k v) n j + 0) (sym (add-zero (spent_in value m k)))
+    ∙ counted_more value m k n j 0 ∙ ap (λ d. spent_in value n j + d) (kept_by ((m == n) && (k == j)) 0 refl)
+
 more_step : (o : Option Cap) (value : GrantsValue) (m k n j v : ℕ) (cap : Cap) → (m ≡ n → o ≡ Some cap)
     → spent_in (option_map_or (λ c. with_spent value m k (spent_in value m k + v)) o value) n j + 0 ≡ spent_in value n j + cond ((m == n) && (k == j)) v 0
 more_step (Some c) value m k n j v cap h = counted_more value m k n j v
@@ -150,7 +162,7 @@ less_own None es test v is covers =
 less_own (Some s) es test v is covers =
     omega (arith, ap (λ o. unwrap_or o 0) (lookup-set_value test es (s - v) s is), covers)
 
-less_step : (b : Bool) (value : GrantsValue) (m k n j v : ℕ) → is_at (by_grant (n, j)) (m, k) ≡ b → v ≤ spent_in value m k
+pub less_step : (b : Bool) (value : GrantsValue) (m k n j v : ℕ) → is_at (by_grant (n, j)) (m, k) ≡ b → v ≤ spent_in value m k
     → spent_in (spent_less value m k v) n j + cond b v 0 ≡ spent_in value n j + 0
 less_step true value m k n j v h covers =
     let same : (n, j) ≡ (m, k) = tested_key (n, j) (m, k) h in
@@ -171,6 +183,7 @@ sum_step value (Continued m t token reference drawing answer) n j cap can h = re
 sum_step value (Cancelled m token) n j cap can h = refl
 sum_step value (Rotated m t token drawing) n j cap can h = refl
 sum_step value (Revoked m token) n j cap can h = refl
+sum_step value (Reserved m k) n j cap can h = counter_kept value m k n j
 sum_step value (Spent m k v) n j cap can h =
     more_step (cap_in value m) value m k n j v cap (λ same. ap (cap_in value) same ∙ h (subst (λ i. IsTrue (has_row value i)) same can.0))
 sum_step value (GivenBack m k v) n j cap can h =
@@ -203,6 +216,7 @@ within_call value (Continued m t token reference drawing answer) n j cap can h w
 within_call value (Cancelled m token) n j cap can h within = omega (arith, within)
 within_call value (Rotated m t token drawing) n j cap can h within = omega (arith, within)
 within_call value (Revoked m token) n j cap can h within = omega (arith, within)
+within_call value (Reserved m k) n j cap can h within = omega (arith, within)
 within_call value (Spent m k v) n j cap can h within =
     within_step ((m == n) && (k == j)) value m k n j v cap refl can.1 (λ same. ap (cap_in value) same ∙ h (subst (λ i. IsTrue (has_row value i)) same can.0)) within
 within_call value (GivenBack m k v) n j cap can h within = omega (arith, within)
@@ -244,6 +258,7 @@ uncapped_call value (Continued m t token reference drawing answer) n j can h bef
 uncapped_call value (Cancelled m token) n j can h before = before
 uncapped_call value (Rotated m t token drawing) n j can h before = before
 uncapped_call value (Revoked m token) n j can h before = before
+uncapped_call value (Reserved m k) n j can h before = let kept = counter_kept value m k n j in omega (arith, kept, before)
 uncapped_call value (Spent m k v) n j can h before =
     uncapped_step (cap_in value m) value m k n j v (λ same. ap (cap_in value) same ∙ h (subst (λ i. IsTrue (has_row value i)) same can.0)) before
 uncapped_call value (GivenBack m k v) n j can h before =

@@ -24,7 +24,7 @@ use Rattle.op_grant.specs.declared.fault.GrantFault.TheVariants as faults
 use Rattle.op_grant.specs.declared.fault.Proceeded.{Proceeded}
 use Rattle.op_grant.specs.declared.fault.Proceeded.TheVariants as answers
 use Rattle.op_grant.specs.Runs.{Drawing, IsDrawing, Call, CanCall, AreCalls, after_call, after_calls, Ends}
-use Rattle.op_grant.specs.Runs.Call.{Requested, Decided, Continued, Cancelled, Rotated, Revoked, Spent, GivenBack}
+use Rattle.op_grant.specs.Runs.Call.{Requested, Decided, Continued, Cancelled, Rotated, Revoked, Reserved, Spent, GivenBack}
 use Rattle.op_grant.proofs.Finding.{current_access, live_current, live_is, is_live, false_where}
 use Rattle.op_grant.proofs.Indexing.{number_cases, access_before}
 use Rattle.op_grant.proofs.Numbered.{nth-with_item, nth-changed, nth-other, nth-last, nth_either, nth-map, of_map, number_of_none, number_of_only}
@@ -184,6 +184,7 @@ gone_call text value (Rotated m t token drawing) can h =
     (λ old o current. drawn_other (f old) text drawing refl can.1.word can.1.small (h.passed drawing.place can.1.new) current) h
 gone_call text value (Revoked m token) can h =
     gone_kept text revoked value.rows m (λ r. refl) (λ old o current. revoked_current old text current) h
+gone_call text value (Reserved n j) can h = h
 gone_call text value (Spent n j v) can h = subst (IsGone text) (sym (rows_stay (cap_in value n) value n j (spent_in value n j + v))) h
 gone_call text value (GivenBack n j v) can h = h
 
@@ -234,6 +235,7 @@ ended text value (Revoked m token) n row h can there current ends = record {
   never = ended_never text revoked value.rows m n row h there current ends (λ old c. revoked_current old text c);
   passed = λ place p. text_before text value.rows n place row there current (new_before revoked value.rows m place (λ r. refl) p);
 }
+ended text value (Reserved m j) n row h can there current ends = absurd ends
 ended text value (Spent m j v) n row h can there current ends = absurd ends
 ended text value (GivenBack m j v) n row h can there current ends = absurd ends
 

@@ -7,7 +7,7 @@ use Rattle.op_model.specs.Grants.{current_token, live_token}
 use Rattle.op_model.specs.declared.grant.Asked.{Asked}
 use Rattle.op_model.specs.declared.grant.Cap.{Cap}
 use Rattle.op_model.specs.declared.row.GrantRow.{GrantRow}
-use Rattle.op_grant.specs.Value.{GrantsValue, no_grants, has_row, with_grant, with_row, cap_in, spent_in, spent_more, spent_less}
+use Rattle.op_grant.specs.Value.{GrantsValue, no_grants, has_row, with_grant, with_row, cap_in, spent_in, with_counter, spent_more, spent_less}
 use Rattle.op_grant.specs.Places.{IsNewPlace}
 use Rattle.op_grant.specs.Limits.{are_readable, covers_spending}
 use Rattle.op_grant.specs.Rows.{at_row, asked_row, ask_fault, decide_answer, decided, proceed_answer, proceeded_row, cancel_answer, cancelled, token_answer, rotated, revoked, grant_of_live}
@@ -26,6 +26,7 @@ pub data Call : Type 0 where
   Cancelled : (n : ℕ) (token : List ℕ) → Call
   Rotated : (n t : ℕ) (token : List ℕ) (drawing : Drawing) → Call
   Revoked : (n : ℕ) (token : List ℕ) → Call
+  Reserved : (n j : ℕ) → Call
   Spent : (n j v : ℕ) → Call
   GivenBack : (n j v : ℕ) → Call
 
@@ -44,6 +45,7 @@ CanCall value (Continued n t token reference drawing answer) =
 CanCall value (Cancelled n token) = IsTrue (has_row value n) × (at_row (cancel_answer token) value n ≡ Ok tt)
 CanCall value (Rotated n t token drawing) = IsTrue (has_row value n) × IsDrawing value drawing × (at_row (token_answer token) value n ≡ Ok tt)
 CanCall value (Revoked n token) = IsTrue (has_row value n) × (at_row (token_answer token) value n ≡ Ok tt)
+CanCall value (Reserved n j) = Unit {0}
 CanCall value (Spent n j v) = IsTrue (has_row value n) × IsTrue (covers_spending value n j v)
 CanCall value (GivenBack n j v) = IsTrue (has_row value n) × (v ≤ spent_in value n j)
 
@@ -55,6 +57,7 @@ after_call value (Continued n t token reference drawing answer) = with_row (proc
 after_call value (Cancelled n token) = with_row cancelled value n
 after_call value (Rotated n t token drawing) = with_row (rotated t drawing.word drawing.place) value n
 after_call value (Revoked n token) = with_row revoked value n
+after_call value (Reserved n j) = with_counter value n j
 after_call value (Spent n j v) = spent_more value n j v
 after_call value (GivenBack n j v) = spent_less value n j v
 

@@ -3,7 +3,7 @@
 ghost use Rattle.std.specs.Prelude.{◌≡◌, ◌≢◌, ◌≤◌, [], length, IsTrue, OnOk, OnErr, IfOk, IfErr, Some, None};
 ghost use Rattle.std.specs.Option.{option_copied};
 ghost use Rattle.op_model.specs.History.{nth};
-ghost use Rattle.op_grant.specs.Value.{no_grants, has_row, with_grant, with_row, spent_in, spent_more, spent_less};
+ghost use Rattle.op_grant.specs.Value.{no_grants, has_row, with_grant, with_row, interval_in, counter_of, spent_in, with_counter, spent_more, spent_less};
 ghost use Rattle.op_grant.specs.Limits.{may_pay_answer, may_spend_answer, covers_spending, are_readable};
 ghost use Rattle.op_grant.specs.Places.{IsNewPlace};
 ghost use Rattle.op_grant.specs.Rows.{at_row, asked_row, ask_fault, decide_answer, decided, proceed_answer, proceeded_row, cancel_answer, cancelled, token_answer, rotated, revoked, grant_of_live};
@@ -23,8 +23,8 @@ use std::marker::Model;
 /// Grants by number, from 1, in the order in which they were asked for (GNAP, RFC 9635), and what was spent under each
 /// in each interval of its limits, in smallest units of the cap's asset.
 ///
-/// A grant is found by its access token without a walk over the others. A refused call leaves all as it was. Only `ask`
-/// and `spend` take memory.
+/// A grant is found by its access token without a walk over the others. A refused call leaves all as it was. Only `ask`,
+/// `reserve_spending` and `spend` take memory.
 #[derive(Drop)]
 pub struct Grants {
     rows: Vec<GrantRow>,
@@ -122,9 +122,7 @@ impl Grants {
         ensures err { OnErr result (self.new ≡ self.old) }
     {
         let row = &mut self.rows[n as usize - 1];
-        if !rows::is_pending(row) {
-            return Err(GrantFault::NotPending);
-        }
+        rows::decide_answer(row)?;
         rows::decide(row, accept, word, place);
         Ok(())
     }
@@ -278,12 +276,34 @@ impl Grants {
         self.may_pay(n, t, asked)
     }
 
-    /// Counts a value as spent under grant `n` in interval `j`. Without a cap nothing is counted.
+    /// The interval of grant `n` in which a moment lies: 0 for all moments where its limits do not repeat.
+    pub fn interval_at(&self, n: u64, t: Moment) -> Option<u64>
+        requires { IsTrue (has_row self.now n) }
+        ensures { result ≡ interval_in self.now n t }
+    {
+        let row = &self.rows[n as usize - 1];
+        limits::interval_at(row.items.as_slice(), t)
+    }
+
+    /// Makes room for what is counted under grant `n` in interval `j`: to spend there takes no memory then. What was spent
+    /// stays.
+    pub fn reserve_spending(&mut self, n: u64, j: u64) -> Result<(), AllocError>
+        ensures ok { OnOk result (self.new ≡ with_counter self.old n j) }
+        ensures err { OnErr result (self.new ≡ self.old) }
+    {
+        let spent = self.counters.get(&(n, j)).copied().unwrap_or(0);
+        self.counters.insert((n, j), spent)?;
+        Ok(())
+    }
+
+    /// Counts a value as spent under grant `n` in interval `j`. Without a cap nothing is counted. Takes memory only where
+    /// nothing was counted there before, nor reserved.
     pub fn spend(&mut self, n: u64, j: u64, value: u64) -> Result<(), AllocError>
         requires there { IsTrue (has_row self.old n) }
         requires covered { IsTrue (covers_spending self.old n j value) }
         ensures ok { OnOk result (self.new ≡ spent_more self.old n j value) }
         ensures err { OnErr result (self.new ≡ self.old) }
+        ensures first { OnErr result (counter_of self.old n j ≡ None) }
     {
         let row = &self.rows[n as usize - 1];
         match limits::cap_of(row.items.as_slice()) {

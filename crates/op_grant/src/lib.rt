@@ -1,6 +1,7 @@
 //! Grants: their tokens, and what was spent under them (GNAP, RFC 9635).
 #![tactic(auto)]
 
+mod answers;
 mod fault;
 mod grants;
 mod laws;
@@ -10,6 +11,7 @@ mod rows;
 mod tests;
 mod tokens;
 
+pub use answers::may_ask;
 pub use fault::{GrantFault, Proceeded};
 pub use grants::Grants;
 pub use laws::{

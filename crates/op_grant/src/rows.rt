@@ -4,7 +4,7 @@ ghost use Rattle.std.specs.Prelude.{◌≡◌, if◌then◌else◌, [], None, So
 ghost use Rattle.std.specs.Option.{option_copied};
 ghost use Rattle.op_model.specs.Grants.{is_immediate, current_token, live_token, is_secret, is_cancelled};
 ghost use Rattle.op_model.specs.GrantAnswers.{is_pending, is_issued, is_rejected, is_redirect, finish_of, is_wrong_reference};
-ghost use Rattle.op_grant.specs.Rows.{asked_row, decided, proceed_answer, proceeded_row, rotated, cancel_answer, token_answer};
+ghost use Rattle.op_grant.specs.Rows.{asked_row, decide_answer, decided, proceed_answer, proceeded_row, rotated, cancel_answer, token_answer};
 ghost use Rattle.op_grant.specs.declared.fault.Proceeded.TheVariants as answers;
 
 use crate::fault::{GrantFault, Proceeded};
@@ -82,10 +82,21 @@ pub(crate) fn decide(row: &mut GrantRow, accept: bool, word: &[u8; 16], place: u
     row.reference = Some(secret_text(Letter::Interaction, word, place));
 }
 
-pub(crate) fn is_pending(row: &GrantRow) -> bool
+fn is_pending(row: &GrantRow) -> bool
     ensures { result ≡ is_pending row.now.state }
 {
     matches!(row.state, GrantState::Pending)
+}
+
+/// Whether the provider can decide a grant.
+pub(crate) fn decide_answer(row: &GrantRow) -> Result<(), GrantFault>
+    ensures { result ≡ decide_answer row.now }
+{
+    if is_pending(row) {
+        Ok(())
+    } else {
+        Err(GrantFault::NotPending)
+    }
 }
 
 fn is_issued(row: &GrantRow) -> bool

@@ -1,11 +1,17 @@
-use Rattle.std.proofs.Common.{sym, subst, ap, refl, Ok, Err}
-use Rattle.std.specs.Prelude.{if◌then◌else◌}
+use Rattle.std.proofs.Common.{sym, subst, refl, Ok, Err}
+use Rattle.std.proofs.lemmas.Result.{err_from_is_err_and}
 use Rattle.op_grant.specs.Indexed.{IsKept}
 use Rattle.op_grant.specs.Rows.{decide_answer, decided}
-use Rattle.op_grant.specs.declared.fault.GrantFault.TheVariants.{NotPending}
 use Rattle.op_grant.proofs.Indexing.{kept_changed}
 use Rattle.op_grant.proofs.Changes.{Reads, answered, rows_set, changed}
 use Rattle.op_grant.proofs.grants.Grants.decide.Goals as goal
+
+pub returns-in_err-decide_answer-clause-answer : goal.returns-in_err-decide_answer-clause-answer
+returns-in_err-decide_answer-clause-answer c =
+    let p = err_from_is_err_and c.from_residual.result c.from_residual.ensures.1 in
+    let reads : Reads c.args.self.now c.self.inside.rows.items c.self.inside.counters.entries c.args.n c.index_mut-row.result.now =
+    record { view = c.self.view_is; there = c.requires.there; at = c.index_mut-row.ensures.value } in
+    rw (p.1, p.2) (answered c.args.self.now c.self.inside.rows.items c.self.inside.counters.entries c.args.n c.index_mut-row.result.now decide_answer (Err c.in_err-decide_answer.field-0.0) reads c.in_err-decide_answer.ensures)
 
 reads : (c : goal.After-self-2-1) → Reads c.args.self.now c.self.inside.rows.items c.self.inside.counters.entries c.args.n c.index_mut-row.result.now
 reads c = record { view = c.self.view_is; there = c.requires.there; at = c.index_mut-row.ensures.value }
@@ -18,8 +24,7 @@ invariant_of-self-2 c =
 
 pub returns-clause-answer : goal.returns-clause-answer
 returns-clause-answer c =
-    answered c.args.self.now c.self.inside.rows.items c.self.inside.counters.entries c.args.n c.index_mut-row.result.now decide_answer (Ok tt) (reads c)
-    (ap (λ b. if b then Ok tt else Err NotPending) c.if-not-is_pending.ensures)
+    answered c.args.self.now c.self.inside.rows.items c.self.inside.counters.entries c.args.n c.index_mut-row.result.now decide_answer (Ok tt) (reads c) c.in_ok-decide_answer.ensures
 
 pub returns-clause-ok : goal.returns-clause-ok
 returns-clause-ok c =
