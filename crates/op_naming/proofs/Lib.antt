@@ -1,0 +1,6 @@
+pub mod Adding
+pub mod CodeText
+pub mod Lists
+pub mod NamesNext
+pub mod Numbers
+pub mod Texts

@@ -1,0 +1,5 @@
+pub mod Added
+pub mod Indexes
+pub mod Kept
+pub mod Names
+pub mod Rates
