@@ -18,13 +18,13 @@ use Rattle.op_ledger.proofs.Transfers.{held_keeps, there-holding, asset-holding,
 number_apart : (m n : ℕ) → (m ≡ n → ⊥) → (m == n) ≡ false
 number_apart m n h = grind (arith, nat_tests)
 
-fees_numbered : (v : LedgerValue) (n : ℕ) → IsSound v → is_there v (Fees n) ≡ true → asset_in v (Fees n) ≡ n
+pub fees_numbered : (v : LedgerValue) (n : ℕ) → IsSound v → is_there v (Fees n) ≡ true → asset_in v (Fees n) ≡ n
 fees_numbered v n sound there =
     let x = there_is (balance_of v (Fees n)) there in
     let number : n ≡ x.0.asset = subst (λ a. IsNumbered a x.0.asset) (found_account v.accounts (Fees n) x.0 x.1) (numbered_of v.accounts (Fees n) x.0 sound.numbered x.1) in
     ap (λ o. option_map_or (λ b. b.asset) o 0) x.1 ∙ sym number
 
-pool_numbered : (v : LedgerValue) (n : ℕ) → IsSound v → is_there v (Pool n) ≡ true → asset_in v (Pool n) ≡ n
+pub pool_numbered : (v : LedgerValue) (n : ℕ) → IsSound v → is_there v (Pool n) ≡ true → asset_in v (Pool n) ≡ n
 pool_numbered v n sound there =
     let x = there_is (balance_of v (Pool n)) there in
     let number : n ≡ x.0.asset = subst (λ a. IsNumbered a x.0.asset) (found_account v.accounts (Pool n) x.0 x.1) (numbered_of v.accounts (Pool n) x.0 sound.numbered x.1) in

@@ -184,12 +184,12 @@ opened_step f None true b h = h
 opened_step f None false b h = refl
 opened_step f (Some x) t b h = refl
 
-opened_field : (f : Balance → ℕ) (v : LedgerValue) (account : Account) (asset : ℕ) (a : Account) → f (record { account = account; asset = asset; posted = 0; held = 0 }) ≡ 0 → option_map_or f (balance_of (opened v account asset) a) 0 ≡ option_map_or f (balance_of v a) 0
+pub opened_field : (f : Balance → ℕ) (v : LedgerValue) (account : Account) (asset : ℕ) (a : Account) → f (record { account = account; asset = asset; posted = 0; held = 0 }) ≡ 0 → option_map_or f (balance_of (opened v account asset) a) 0 ≡ option_map_or f (balance_of v a) 0
 opened_field f v account asset a h =
     let b : Balance = record { account = account; asset = asset; posted = 0; held = 0 } in
     ap (λ o. option_map_or f o 0) (find-append (λ c. is_same_account c.account a) v.accounts (b ∷ [])) ∙ opened_step f (balance_of v a) (is_same_account account a) b h
 
-opened_there : (v : LedgerValue) (account : Account) (asset : ℕ) (a : Account) → is_there v a ≡ true → balance_of (opened v account asset) a ≡ balance_of v a
+pub opened_there : (v : LedgerValue) (account : Account) (asset : ℕ) (a : Account) → is_there v a ≡ true → balance_of (opened v account asset) a ≡ balance_of v a
 opened_there v account asset a there =
     let b : Balance = record { account = account; asset = asset; posted = 0; held = 0 } in
     let x = there_is (balance_of v a) there in
@@ -197,7 +197,7 @@ opened_there v account asset a there =
     ∙ ap (λ o. option_or o (cond (is_same_account account a) (Some b) None)) x.1
     ∙ sym x.1
 
-posted_call : (v : LedgerValue) (call : Call) → IsSound v → CanCall v call → (a : Account) → is_outside a ≡ false → posted_in (after_call v call) a + went_from (call_legs (asset_in v) call) a ≡ posted_in v a + came_to (call_legs (asset_in v) call) a
+pub posted_call : (v : LedgerValue) (call : Call) → IsSound v → CanCall v call → (a : Account) → is_outside a ≡ false → posted_in (after_call v call) a + went_from (call_legs (asset_in v) call) a ≡ posted_in v a + came_to (call_legs (asset_in v) call) a
 posted_call v (Opened account asset) sound can a inside = ap (λ n. n + 0) (opened_field (λ b. b.posted) v account asset a refl)
 posted_call v (Deposited account n) sound can a inside =
     let s = asset_in v account in
@@ -215,7 +215,7 @@ withdrawn_step : (t : Bool) (v : LedgerValue) (s q n : ℕ) → (s == q) ≡ t �
 withdrawn_step true v s q n e same le = subst (λ d. n ≤ posted_in v d) (account_is (Outside s) (Outside q) same) le
 withdrawn_step false v s q n e same le = omega arith
 
-total_call : (v : LedgerValue) (call : Call) → IsSound v → CanCall v call → (s : ℕ) → total_in (after_call v call) s + came_to (call_legs (asset_in v) call) (Outside s) ≡ total_in v s + went_from (call_legs (asset_in v) call) (Outside s)
+pub total_call : (v : LedgerValue) (call : Call) → IsSound v → CanCall v call → (s : ℕ) → total_in (after_call v call) s + came_to (call_legs (asset_in v) call) (Outside s) ≡ total_in v s + went_from (call_legs (asset_in v) call) (Outside s)
 total_call v (Opened account asset) sound can s = ap (λ n. n + 0) (opened_field (λ b. b.posted) v account asset (Outside s) refl)
 total_call v (Deposited account n) sound can s =
     let q = asset_in v account in
@@ -253,7 +253,7 @@ less_step : (t : Bool) (v : LedgerValue) (a c : Account) (n : ℕ) → is_same_a
 less_step true v a c n e le = let here : n ≤ held_in v c = subst (λ d. n ≤ held_in v d) (account_is a c e) le in omega (arith, here)
 less_step false v a c n e le = omega arith
 
-held_call : (v : LedgerValue) (call : Call) → CanCall v call → (a : Account) → held_in (after_call v call) a + freed_by a call ≡ held_in v a + held_by a call
+pub held_call : (v : LedgerValue) (call : Call) → CanCall v call → (a : Account) → held_in (after_call v call) a + freed_by a call ≡ held_in v a + held_by a call
 held_call v (Opened account asset) can a = ap (λ n. n + 0) (opened_field (λ b. b.held) v account asset a refl)
 held_call v (Deposited account n) can a = ap (λ k. k + 0) (held-moved v (deposit_legs v account n) a)
 held_call v (Withdrawn account n) can a = ap (λ k. k + 0) (held-moved v (withdrawal_legs v account n) a)
@@ -270,7 +270,7 @@ held_call v (Voided account n) can a =
 
 -- ---- accounts stay, in their assets
 
-there_call : (v : LedgerValue) (call : Call) (a : Account) → is_there v a ≡ true → is_there (after_call v call) a ≡ true
+pub there_call : (v : LedgerValue) (call : Call) (a : Account) → is_there v a ≡ true → is_there (after_call v call) a ≡ true
 there_call v (Opened account asset) a h = ap is_some (opened_there v account asset a h) ∙ h
 there_call v (Deposited account n) a h = there-moved v (deposit_legs v account n) a ∙ h
 there_call v (Withdrawn account n) a h = there-moved v (withdrawal_legs v account n) a ∙ h
@@ -278,7 +278,7 @@ there_call v (Held account n) a h = there-holding v account (λ k. k + n) a ∙ 
 there_call v (Posted piece) a h = there-moved (holding v piece.payer (λ k. k - taken piece)) (call_legs (asset_in v) (Posted piece)) a ∙ there-holding v piece.payer (λ k. k - taken piece) a ∙ h
 there_call v (Voided account n) a h = there-holding v account (λ k. k - n) a ∙ h
 
-asset_call : (v : LedgerValue) (call : Call) (a : Account) → is_there v a ≡ true → asset_in (after_call v call) a ≡ asset_in v a
+pub asset_call : (v : LedgerValue) (call : Call) (a : Account) → is_there v a ≡ true → asset_in (after_call v call) a ≡ asset_in v a
 asset_call v (Opened account asset) a h = ap (λ o. option_map_or (λ b. b.asset) o 0) (opened_there v account asset a h)
 asset_call v (Deposited account n) a h = asset-moved v (deposit_legs v account n) a
 asset_call v (Withdrawn account n) a h = asset-moved v (withdrawal_legs v account n) a
@@ -330,7 +330,7 @@ sums_from (call ∷ calls) v asset_of sound can agrees =
       held = λ a. omega (arith, held_call v call can.0 a, rest.held a, sum_by-cons (freed_by a) call calls, sum_by-cons (held_by a) call calls);
     }
 
-sound_empty : IsSound no_accounts
+pub sound_empty : IsSound no_accounts
 sound_empty =
     record {
       distinct = tt;

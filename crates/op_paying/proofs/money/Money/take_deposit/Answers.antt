@@ -1,0 +1,48 @@
+use Rattle.std.proofs.Common.{◌≡◌, ℕ, ◌∷◌, ◌++◌, [], List, refl, arith}
+use Rattle.op_model.specs.Legal.{IsNext}
+use Rattle.op_model.specs.declared.act.Act.TheVariants as acts
+use Rattle.op_model.specs.declared.act.Entry.{Entry}
+use Rattle.op_paying.specs.Money.{IsMoneyOf}
+use Rattle.op_paying.specs.declared.money.Money.{Money}
+use Rattle.op_paying.proofs.Acts.{with_act, of_act}
+use Rattle.op_laws.proofs.Placed.{all_placed}
+use Rattle.op_legal.proofs.Named.{next_names}
+use Rattle.op_paying.proofs.Moving.{IsMovable, is_movable, deposit_fits}
+use Rattle.op_paying.proofs.AccountMoney.{deposit_money}
+use Rattle.op_paying.proofs.money.Money.take_deposit.Goals as goal
+
+movable : (history : List Entry) (e : Entry) (money : Money) (id : List ℕ) (account : _) (value : ℕ) → IsMoneyOf history money → e.act ≡ acts.Deposited id account value → IsNext history e → IsMovable history money.ledger account
+movable history e money id account value is act next =
+    let follows = with_act (IsNext history) e (acts.Deposited id account value) act next in
+    is_movable history money.ledger account is.stands (all_placed history is.legal) (next_names history (record { at = e.at; act = acts.Deposited id account value }) follows)
+
+pub deposit-requires-clause-there : goal.deposit-requires-clause-there
+deposit-requires-clause-there c =
+    let can = c.requires.can in
+    (movable can.history c.args.entry.now c.args.self.now c.requires.is.0 c.args.account c.args.value can.is c.requires.is.1 can.next).there
+
+pub deposit-requires-clause-outside : goal.deposit-requires-clause-outside
+deposit-requires-clause-outside c =
+    let can = c.requires.can in
+    (movable can.history c.args.entry.now c.args.self.now c.requires.is.0 c.args.account c.args.value can.is c.requires.is.1 can.next).outside
+
+pub unreachable-requires : goal.unreachable-requires
+unreachable-requires c =
+    let can = c.requires.can in
+    let e = c.args.entry.now in
+    let old = c.args.self.now in
+    let id = c.requires.is.0 in
+    let can_move = movable can.history e old id c.args.account c.args.value can.is c.requires.is.1 can.next in
+    let fits = deposit_fits can.history old.ledger e.at id c.args.account c.args.value can.is.stands can_move (with_act (IsNext can.history) e (acts.Deposited id c.args.account c.args.value) c.requires.is.1 can.next) in
+    let over = c.in-Err.ensures.full.0 refl in
+    absurd (omega (arith, fits, over))
+
+pub returns : goal.returns
+returns c history is next =
+    let old = c.args.self.now in
+    let e = c.args.entry.now in
+    let id = c.requires.is.0 in
+    let act = acts.Deposited id c.args.account c.args.value in
+    let new : Money = record { ledger = c.deposit.new.self; incomings = old.incomings; outgoings = old.outgoings; pieces = old.pieces; addresses = old.addresses } in
+    of_act (λ (x : Entry). IsMoneyOf (history ++ x ∷ []) new) e act c.requires.is.1
+    (deposit_money history e.at id c.args.account c.args.value old new is (with_act (IsNext history) e act c.requires.is.1 next) c.in-Ok.ensures.ok (record { incomings_are = refl; outgoings_are = refl }) refl refl)

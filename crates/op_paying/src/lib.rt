@@ -1,0 +1,10 @@
+//! The money of a wallet: its ledger, incoming payments, quotes and outgoing payments, as a legal history has them. All
+//! values are smallest units of an account's asset.
+#![tactic(auto)]
+
+mod accounts;
+mod money;
+mod payments;
+mod receiving;
+
+pub use money::Money;
