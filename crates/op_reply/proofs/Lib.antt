@@ -1,7 +1,5 @@
 mod AsciiTexts
-mod IdTexts
 mod Joined
-mod Joint
 mod Lists
 mod Objects
 mod Redirects

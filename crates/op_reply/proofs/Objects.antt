@@ -3,14 +3,13 @@ use Rattle.std.proofs.Common.{◌≡◌, ℕ, List, Bool, true, false, Some, Non
 use Rattle.std.specs.Prelude.{nat_le}
 use Rattle.std.specs.Option.{option_and_then}
 use Rattle.std.specs.Str.{is_utf8}
-use Rattle.std.proofs.lemmas.Bool.{false≢true, cases_Bool}
+use Rattle.std.proofs.lemmas.Bool.{and_parts, false≢true, cases_Bool}
 use Rattle.std.proofs.lemmas.Str.{IsUtf8-from_is_utf8, is_utf8-from_IsUtf8}
 use Rattle.serde_json.specs.Data.{Data, Members, null, boolean, number, string, array, object}
 use Rattle.serde_json.specs.Read.{read}
 use Rattle.serde_json.specs.Written.{compact_text, has_float}
 use Rattle.op_model.specs.Metadata.{printed_object, if_printed, if_plain_object, is_metadata, metadata_limit}
 use Rattle.op_model.specs.Bodies.{metadata_data}
-use Rattle.op_reply.proofs.Joint.{both}
 
 same : (equal : Bool) (d : Data) → is_some (if equal then Some d else None) ≡ true → (if equal then Some d else None) ≡ Some d
 same true d found = refl
@@ -31,7 +30,7 @@ printed text (array ds) found = absurd (false≢true found)
 printed text (object ms) found = plain (has_float (object ms)) text ms found
 
 is_printed : (text : List ℕ) → IsTrue (is_metadata text) → is_some (printed_object text) ≡ true
-is_printed text form = (both (nat_le (length text) metadata_limit) (is_some (printed_object text)) form).1
+is_printed text form = (and_parts (nat_le (length text) metadata_limit) (is_some (printed_object text)) form).1
 
 -- what metadata reads as is what it prints
 pub metadata_read : (text : List ℕ) (d : Data) → IsUtf8 text → read text ≡ Some d → IsTrue (is_metadata text) → (d ≡ metadata_data text) × (has_float d ≡ false)

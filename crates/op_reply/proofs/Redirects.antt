@@ -8,7 +8,7 @@ use Rattle.base64.proofs.EngineFacts.{IsAscii-encode_of}
 use Rattle.op_names.specs.Interaction.{interaction_hash}
 use Rattle.op_model.specs.Bodies.{redirect_url, grant_url, has_query}
 use Rattle.op_model.specs.declared.reply.Redirect.{Redirect}
-use Rattle.op_reply.proofs.IdTexts.{IsAscii-from_test}
+use Rattle.op_names.proofs.AsciiTexts.{IsAscii-from_test}
 
 hash_is_text : (a b c d : List ℕ) → IsUtf8 (interaction_hash a b c d)
 hash_is_text a b c d = IsUtf8-from_ascii (interaction_hash a b c d) (IsAscii-encode_of url_safe_no_pad _)

@@ -1,7 +1,7 @@
 -- Tables of members: what is put behind the members so far.
 use Rattle.std.proofs.Common.{◌≡◌, ◌<◌, ℕ, suc, ◌+◌, Bool, true, false, ◌&&◌, List, [], ◌∷◌, ◌++◌, length, take, drop, get_or, Some, None, refl, sym, ap, subst, ◌∙◌, IsTrue}
 use Rattle.std.proofs.Math.Seq.{split_at}
-use Rattle.std.proofs.lemmas.Bool.{or_from, or_parts, false≢true}
+use Rattle.std.proofs.lemmas.Bool.{and_parts, or_from, or_parts, false≢true}
 use Rattle.std.proofs.lemmas.List.{take_more}
 use Rattle.std.proofs.lemmas.List.Folds.{list_all-append}
 use Rattle.std.specs.Borrow.{Bor}
@@ -15,7 +15,6 @@ use Rattle.serde_json.specs.Written.{has_float, members_have_float}
 use Rattle.op_model.specs.Bodies.{optional}
 use Rattle.op_reply.specs.Fields.{field_data, members_data, is_behind, is_ascending, put_if, IsText, AreTexts}
 use Rattle.op_reply.specs.declared.fields.Field.{Field}
-use Rattle.op_reply.proofs.Joint.{both}
 
 the_last : {X : Type 0} (r : Ordering) (a b c : X) → is_gt r ≡ true → match_ordering r a b c ≡ c
 the_last Less a b c h = absurd (false≢true h)
@@ -44,10 +43,10 @@ put_last : (ms : List (Bor (List ℕ) × Field)) (name : List ℕ) (value : Opti
 put_last [] name None all = refl
 put_last [] name (Some d) all = refl
 put_last (m ∷ ms) name None all =
-    let parts = both (is_behind name m.0.now) (list_all (λ x. is_behind name x.0.now) ms) all in
+    let parts = and_parts (is_behind name m.0.now) (list_all (λ x. is_behind name x.0.now) ms) all in
     ap (optional m.0.now (field_data m.1)) (put_last ms name None parts.1)
 put_last (m ∷ ms) name (Some d) all =
-    let parts = both (is_behind name m.0.now) (list_all (λ x. is_behind name x.0.now) ms) all in
+    let parts = and_parts (is_behind name m.0.now) (list_all (λ x. is_behind name x.0.now) ms) all in
     put_past name m.0.now d (field_data m.1) (members_data ms) (with_last ms name (Some d)) parts.0 (put_last ms name (Some d) parts.1)
 
 joined : (a b : Bool) → a ≡ true → b ≡ true → (a && b) ≡ true
@@ -59,9 +58,9 @@ behind_front : (front : List (Bor (List ℕ) × Field)) (m : Bor (List ℕ) × F
 behind_front [] m rest up = refl
 behind_front (x ∷ front) m rest up =
     let below = λ (later : Bor (List ℕ) × Field). is_behind later.0.now x.0.now in
-    let parts = both (list_all below (front ++ m ∷ rest)) (is_ascending (front ++ m ∷ rest)) up in
-    let later = both (list_all below front) (list_all below (m ∷ rest)) (sym (list_all-append below front (m ∷ rest)) ∙ parts.0) in
-    joined _ _ (both (below m) (list_all below rest) later.1).0 (behind_front front m rest parts.1)
+    let parts = and_parts (list_all below (front ++ m ∷ rest)) (is_ascending (front ++ m ∷ rest)) up in
+    let later = and_parts (list_all below front) (list_all below (m ∷ rest)) (sym (list_all-append below front (m ∷ rest)) ∙ parts.0) in
+    joined _ _ (and_parts (below m) (list_all below rest) later.1).0 (behind_front front m rest parts.1)
 
 -- each member of a table of texts is a text
 text_in : (front : List (Bor (List ℕ) × Field)) (m : Bor (List ℕ) × Field) (rest : List (Bor (List ℕ) × Field)) → AreTexts (front ++ m ∷ rest) → IsText m.1

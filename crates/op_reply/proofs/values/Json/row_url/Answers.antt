@@ -1,6 +1,6 @@
 use Rattle.std.proofs.Common.{sym, subst}
 use Rattle.std.specs.Str.{IsUtf8}
-use Rattle.op_reply.proofs.IdTexts.{IsUtf8-id_text}
+use Rattle.op_names.proofs.AsciiTexts.{IsUtf8-id_text}
 use Rattle.op_reply.proofs.values.Json.row_url.Goals as goal
 
 pub utf8-id-requires : goal.utf8-id-requires
