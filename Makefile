@@ -1,6 +1,6 @@
 # What a newcomer needs: `make demo` and `make test`. Both build what is missing.
 
-.PHONY: demo test wallet bench
+.PHONY: demo test wallet bench planted
 
 SOURCES := crates.txt $(shell find crates -path '*/out' -prune -o -type f -print)
 
@@ -26,3 +26,7 @@ test:
 # Not part of the gate: what requests on a journal on disk cost, beside a C program that makes the same calls.
 bench: bin/wallet
 	python3 scripts/bench.py
+
+# Not part of the gate: each of six wrong definitions is refused by a worked row.
+planted:
+	python3 scripts/planted.py

@@ -1,10 +1,11 @@
 -- Entries that may not follow the worked purchase's history, and tasks that have no act on it, by computation.
-use Rattle.std.proofs.Common.{◌≡◌, refl, lit≤, ℕ, ◌+◌, ◌≤◌, List, [], codes, take, true, Some, None, Option, arith}
+use Rattle.std.proofs.Common.{◌≡◌, refl, lit≤, ℕ, ◌+◌, ◌≤◌, List, [], ◌∷◌, codes, take, true, Some, None, Option, arith}
 use Rattle.std.specs.Fmt.{digits}
 use Rattle.hex.proofs.OnLiterals.{hex_on_literals}
 use Rattle.op_names.specs.declared.Kind.TheVariants as kinds
 use Rattle.op_model.specs.Answer.{answer}
 use Rattle.op_model.specs.Legal.{IsNext, asked_by, by_token, by_continuation, name_of_address, name_of_row}
+use Rattle.op_model.specs.declared.act.Account.TheVariants.{Pool, Wallet}
 use Rattle.op_model.specs.declared.act.Act.{Act}
 use Rattle.op_model.specs.declared.act.Act.TheVariants as acts
 use Rattle.op_model.specs.declared.act.Entry.{Entry}
@@ -12,9 +13,9 @@ use Rattle.op_model.specs.declared.act.QuoteMode.TheVariants as quote_modes
 use Rattle.op_model.specs.declared.request.PaymentAsked.TheVariants.{Quoted}
 use Rattle.op_model.specs.declared.request.Request.TheVariants as requests
 use Rattle.op_model.specs.declared.request.Task.{Task}
-use Rattle.op_model.specs.declared.request.Task.TheVariants.{Ask}
+use Rattle.op_model.specs.declared.request.Task.TheVariants.{Ask, Step}
 use Rattle.op_model.specs.declared.request.Verdict.{Verdict}
-use Rattle.op_model.proofs.Purchase.{purchase, turn, shop}
+use Rattle.op_model.proofs.Purchase.{purchase, turn, shop, at, word, item, outgoing_item}
 
 nothing_acts : {P : Type 0} (act : Act) → None ≡ Some act → P
 nothing_acts act h = absurd (let e : None ≡ Some act = h in cc)
@@ -110,3 +111,31 @@ other_address_refused = refl
 
 unmade_grant_refused : IsNext (take 9 purchase) (record { at = turn 10; act = acts.GrantAccepted 4 [] }) → ⊥
 unmade_grant_refused next = nothing_acts (acts.GrantAccepted 4 []) next.act
+
+-- ---- a piece that the target's pool does not cover
+
+-- a payment of 100 at 3/7 in seven pieces, each of 15 and a delivery of 6, from a pool of so much
+abbrev funded_with : ℕ → List Entry
+funded_with pool =
+    at 0 (acts.AssetAdded (codes "USD") 2 7)
+    ∷ at 0 (acts.AssetAdded (codes "EUR") 2 1)
+    ∷ at 0 (acts.AddressAdded (codes "/alice") 1 None)
+    ∷ at 0 (acts.AddressAdded (codes "/shop") 2 None)
+    ∷ at 0 (acts.Deposited (codes "a") (Wallet 1) 500)
+    ∷ at 0 (acts.Deposited (codes "b") (Pool 2) pool)
+    ∷ at 0 (acts.RateSet 1 2 3 7)
+    ∷ at 0 (acts.GrantAsked shop (item 1 7 ∷ item 2 1 ∷ []) None (word 1))
+    ∷ at 0 (acts.IncomingMade 1 2 None 1709296200123 None)
+    ∷ at 0 (acts.QuoteMade 1 1 1 quote_modes.Debit 102 102 100 2 42 3 7)
+    ∷ at 0 (acts.GrantAsked shop (outgoing_item ∷ []) None (word 2))
+    ∷ at 0 (acts.GrantAccepted 2 (word 3))
+    ∷ at 5 (acts.GrantContinued 2 (word 4))
+    ∷ at 5 (acts.OutgoingMade 2 1 None)
+    ∷ at 6 (acts.OutgoingFunded 1 0)
+    ∷ []
+
+covered_piece : act_on (funded_with 6) (turn 6) [] 0 (Step 1 1) ≡ Some (acts.OutgoingSent 1 1)
+covered_piece = refl
+
+uncovered_piece_refused : IsNext (funded_with 5) (record { at = turn 6; act = acts.OutgoingSent 1 1 }) → ⊥
+uncovered_piece_refused next = nothing_acts (acts.OutgoingSent 1 1) next.act

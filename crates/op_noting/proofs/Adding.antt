@@ -1,8 +1,8 @@
 -- The events that an entry adds are those that its act tells of the payments that it touches.
-use Rattle.std.proofs.Common.{◌≡◌, ℕ, ◌+◌, ◌≤◌, Bool, true, false, cond, List, [], ◌∷◌, ◌++◌, length, refl, ◌∙◌, ap, Some, None, Option, append-nil, arith}
+use Rattle.std.proofs.Common.{◌≡◌, ℕ, ◌≤◌, Bool, true, false, cond, List, [], ◌∷◌, ◌++◌, length, refl, ◌∙◌, ap, Some, None, Option, append-nil, arith}
 use Rattle.std.proofs.lemmas.List.{length-append}
 use Rattle.std.specs.Option.{option_map, option_map_or, option_and_then, option_to_list}
-use Rattle.op_model.specs.Events.{events, act_events, incoming_event_of, outgoing_event_of, is_filled, filled_row, filled_event, filled_by}
+use Rattle.op_model.specs.Events.{events, act_events, incoming_event_of, outgoing_event_of, is_filled, filled_row, filled_event}
 use Rattle.op_model.specs.Payments.{incomings, incoming_row, payments_made, outgoing_row}
 use Rattle.op_model.specs.declared.act.Act.{Act}
 use Rattle.op_model.specs.declared.act.Act.TheVariants as acts
@@ -14,7 +14,7 @@ use Rattle.op_model.specs.declared.row.IncomingRow.{IncomingRow}
 use Rattle.op_model.specs.declared.row.OutgoingRow.{OutgoingRow}
 use Rattle.op_model.proofs.Next.{events-next}
 use Rattle.op_noting.specs.Laws.{EventsNext}
-use Rattle.op_noting.specs.Touched.{incoming_of, outgoing_of, filled_of, filled_of_payment, filled_now, touched_by, incoming_told, outgoing_told, incoming_word, outgoing_word, told_of, told, events_limit}
+use Rattle.op_noting.specs.Touched.{incoming_of, outgoing_of, filled_of, filled_of_payment, touched_by, incoming_told, outgoing_told, incoming_word, outgoing_word, told_of, told, events_limit}
 use Rattle.op_noting.specs.declared.touched.Touched.{Touched}
 
 of_incoming : (after : List Entry) (t : ℕ) (word : EventWord) (i : ℕ) (found : Option IncomingRow) → option_to_list (option_map (incoming_event_of after t word i) found) ≡ told_of (incoming_told t) (Some word) (option_map (incoming_of after i) found)

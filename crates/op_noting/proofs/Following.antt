@@ -1,12 +1,11 @@
 -- Behind an entry that may follow, the events that are kept are those of the longer history.
-use Rattle.std.proofs.Common.{◌≡◌, ℕ, zero, suc, ◌+◌, ◌<◌, ◌≤◌, Bool, true, false, cond, ◌||◌, List, [], ◌∷◌, ◌++◌, length, map, refl, sym, ap, subst, ◌∙◌, Some, None, Option, append-nil, arith}
+use Rattle.std.proofs.Common.{◌≡◌, ℕ, zero, suc, ◌+◌, ◌<◌, ◌≤◌, Bool, true, false, cond, List, [], ◌∷◌, ◌++◌, length, map, refl, sym, ap, subst, ◌∙◌, Some, None, Option, append-nil, arith}
 use Rattle.std.specs.Prelude.{◌==◌, is_some, slice_get}
-use Rattle.std.specs.List.{enumerate_from, filter_map, list_any}
+use Rattle.std.specs.List.{enumerate_from}
 use Rattle.std.specs.Option.{option_map, option_to_list}
 use Rattle.std.proofs.lemmas.List.{map-append, length-append}
 use Rattle.op_model.specs.Events.{Attempt, events, event_row, attempts, attempt_of, is_event_due}
-use Rattle.op_model.specs.Grants.{has_act}
-use Rattle.op_model.specs.History.{nth, numbered, last, with_item, changed_at}
+use Rattle.op_model.specs.History.{numbered, last, with_item}
 use Rattle.op_model.specs.Legal.{IsLegal, IsNext}
 use Rattle.op_model.specs.Answer.{noted_outcome}
 use Rattle.op_model.specs.declared.act.Act.{Act}
@@ -14,7 +13,7 @@ use Rattle.op_model.specs.declared.act.Act.TheVariants as acts
 use Rattle.op_model.specs.declared.act.Entry.{Entry}
 use Rattle.op_model.specs.declared.row.EventRow.{EventRow}
 use Rattle.op_model.proofs.Next.{attempts-next, enumerate_from-append, last-next}
-use Rattle.op_model.proofs.Numbered.{map-same, rows-at, none_taken, swapped, same_number, itself}
+use Rattle.op_model.proofs.Numbered.{map-same, rows-at, swapped, same_number, itself}
 use Rattle.op_noting.proofs.Untried.{absent_untried}
 use Rattle.op_hooks.specs.Due.{untried, tried_once}
 use Rattle.op_hooks.specs.Value.{EventsValue, is_event_due_in, attempted}

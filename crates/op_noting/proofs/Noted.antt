@@ -1,5 +1,5 @@
 -- Events behind several that were noted.
-use Rattle.std.proofs.Common.{◌≡◌, ℕ, ◌-◌, ◌+◌, ◌≤◌, List, [], ◌∷◌, ◌++◌, length, map, refl, sym, ap, ◌∙◌, append_assoc, arith, Option}
+use Rattle.std.proofs.Common.{◌≡◌, ℕ, ◌-◌, ◌+◌, ◌≤◌, List, ◌++◌, length, map, refl, sym, ap, ◌∙◌, append_assoc, arith, Option}
 use Rattle.std.proofs.lemmas.List.{map-append, length-append}
 use Rattle.op_model.specs.declared.row.EventRow.{EventRow}
 use Rattle.op_hooks.specs.Due.{untried}

@@ -1,9 +1,8 @@
 -- What an entry adds to the feeds.
-use Rattle.std.proofs.Common.{◌≡◌, ℕ, Bool, true, false, cond, List, [], ◌∷◌, ◌++◌, refl, sym, ap, ◌∙◌, Some, None, Option, append-nil}
+use Rattle.std.proofs.Common.{◌≡◌, ℕ, List, [], ◌∷◌, ◌++◌, refl, sym, ap, ◌∙◌, Some, None, Option, append-nil}
 use Rattle.std.specs.Option.{option_map_or, option_to_list}
 use Rattle.op_amount.specs.declared.Asset.{Asset}
 use Rattle.op_model.specs.Events.{pages, pages_added, page_row}
-use Rattle.op_model.specs.History.{asset_of_address}
 use Rattle.op_model.specs.Payments.{outgoing_row}
 use Rattle.op_model.specs.declared.act.Act.{Act}
 use Rattle.op_model.specs.declared.act.Act.TheVariants as acts

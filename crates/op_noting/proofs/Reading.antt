@@ -1,11 +1,11 @@
 -- What is read off the events of a history.
-use Rattle.std.proofs.Common.{◌≡◌, ℕ, suc, ◌+◌, Bool, true, false, cond, ◌&&◌, List, [], ◌∷◌, length, map, take, refl, sym, ap, subst, ◌∙◌, Some, None, Option, Ok, Err, IfOk, IfSome, add-zero, arith}
+use Rattle.std.proofs.Common.{◌≡◌, ℕ, suc, ◌+◌, Bool, false, cond, ◌&&◌, List, [], ◌∷◌, length, map, take, refl, sym, ap, subst, ◌∙◌, Some, None, Option, Ok, Err, IfOk, IfSome, add-zero, arith}
 use Rattle.std.specs.declared.result.Result.{Result}
 use Rattle.std.specs.Prelude.{nat_lt, nat_le, slice_get}
 use Rattle.std.specs.List.{enumerate_from, filter_map, cons_option}
 use Rattle.std.specs.Option.{option_map, option_map_or}
 use Rattle.op_model.specs.Events.{Attempt, events, event_row, attempts, attempt_limit, is_attempt_due, is_next_due, is_event_due, events_due}
-use Rattle.op_model.specs.History.{nth, numbered, last, origin_of}
+use Rattle.op_model.specs.History.{nth, last, origin_of}
 use Rattle.op_model.specs.Messages.{message_of}
 use Rattle.op_model.specs.Shown.{path_of_address}
 use Rattle.op_model.specs.declared.act.Entry.{Entry}

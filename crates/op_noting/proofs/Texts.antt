@@ -1,5 +1,5 @@
 -- The origin and the paths of a legal history are ASCII, and so UTF-8.
-use Rattle.std.proofs.Common.{◌≡◌, ℕ, ◌<◌, Bool, true, List, [], ◌∷◌, ◌++◌, codes, drop, length, refl, sym, subst, Some, None, Option, unwrap_or, arith, leb-true}
+use Rattle.std.proofs.Common.{◌≡◌, ℕ, ◌<◌, Bool, true, List, [], ◌∷◌, codes, drop, length, refl, sym, subst, Some, None, Option, unwrap_or, arith, leb-true}
 use Rattle.std.specs.Prelude.{◌&&◌, nat_le, nat_eq}
 use Rattle.std.specs.List.{AllByRecursion, list_all, slice_split, join_with_byte, starts_with}
 use Rattle.std.specs.Option.{option_or, option_to_list}
@@ -12,8 +12,7 @@ use Rattle.std.proofs.lemmas.Str.Ascii.{IsAscii-nil, IsAscii-cons}
 use Rattle.op_names.proofs.Choices.{front_of}
 use Rattle.op_names.specs.Forms.{is_visible, is_web, is_origin, is_slash, is_segment_byte, is_segment, are_segments, is_path}
 use Rattle.op_model.specs.History.{AddressRow, nth, last, origins, origin_set, origin_of, addresses, address_added, no_address}
-use Rattle.op_model.specs.Legal.{IsLegal, IsNext, is_proper, asked_by}
-use Rattle.op_model.specs.Shown.{path_of_address}
+use Rattle.op_model.specs.Legal.{IsLegal, is_proper, asked_by}
 use Rattle.op_model.specs.declared.act.Act.{Act}
 use Rattle.op_model.specs.declared.act.Act.TheVariants.{OriginSet, AddressAdded}
 use Rattle.op_model.specs.declared.act.Entry.{Entry}

@@ -10,12 +10,10 @@ use Rattle.op_model.specs.Messages.{message}
 use Rattle.op_model.specs.Payments.{outgoing_row}
 use Rattle.op_model.specs.Shown.{path_of_address}
 use Rattle.op_model.specs.declared.act.Entry.{Entry}
-use Rattle.op_model.specs.declared.row.EventRow.{EventRow}
 use Rattle.op_model.specs.declared.row.OutgoingRow.{OutgoingRow}
 use Rattle.op_hooks.specs.Value.{EventsValue, is_event_due_in, due_events}
-use Rattle.op_hooks.specs.declared.event.Event.{Event}
 use Rattle.op_pages.specs.Value.{FeedsValue}
-use Rattle.op_noting.specs.Kept.{IsEventsOf, IsFeedsOf, event_so_far, after_act, ended_by, page_rows_of, with_pages}
+use Rattle.op_noting.specs.Kept.{IsEventsOf, IsFeedsOf, event_so_far, after_act, ended_by, page_rows_of}
 use Rattle.op_noting.specs.Touched.{touched_by, told, events_limit}
 use Rattle.op_noting.specs.declared.touched.Touched.{Touched}
 
