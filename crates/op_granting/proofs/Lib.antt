@@ -1,0 +1,16 @@
+pub mod Waiting
+pub mod Following
+pub mod Intervals
+pub mod Readable
+pub mod Calling
+pub mod Drawing
+pub mod Paying
+pub mod Counting
+pub mod Granted
+pub mod Failing
+pub mod Standing
+pub mod SpendingFollows
+pub mod Keeping
+pub mod Accessing
+pub mod Taking
+pub mod Acting
