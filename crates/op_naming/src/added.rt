@@ -87,12 +87,7 @@ fn copy_name(name: &Option<Text>, alloc: Global) -> Result<Option<Text>, AllocEr
     }
 }
 
-fn asset_added(
-    alloc: Global,
-    code: CodeText,
-    scale: u8,
-    pieces: u8,
-) -> Result<Added, AllocError>
+fn asset_added(alloc: Global, code: CodeText, scale: u8, pieces: u8) -> Result<Added, AllocError>
     requires { IsTrue (is_asset_code code) }
     ensures { IfOk result (IsAddedBy (AssetAdded code scale pieces)) }
 {

@@ -13,8 +13,8 @@ ghost use Rattle.op_naming.specs.Indexes.{room_in};
 ghost use Rattle.op_naming.specs.Rates.{rates_room};
 
 use crate::index::Index;
-use crate::keys::AssetKey;
 use crate::kept::{AddressKept, AssetKept, TransferKept};
+use crate::keys::AssetKey;
 use crate::rates::Rates;
 use op_amount::{Asset, Rate};
 use op_model::CodeText;
