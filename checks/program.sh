@@ -33,9 +33,9 @@ cp crates/wallet/stdout "$folder/want"
 run apply "$folder/journal" < crates/wallet/stdin
 check 'the same asset twice' 0 ''
 
-printf 'OPWJ\0\0\0\001\001\0\0\0\020' > "$folder/front"
-if ! head -c 13 "$folder/journal" | cmp -s - "$folder/front"; then
-    echo 'FAILED  the journal has one frame of sixteen bytes'
+printf 'OPWJ\0\0\0\001\001\0\0\0\021\002' > "$folder/front"
+if ! head -c 14 "$folder/journal" | cmp -s - "$folder/front"; then
+    echo 'FAILED  the journal has one frame, with a round of version 2 of seventeen bytes'
     failed=1
 fi
 

@@ -190,10 +190,10 @@ module _ {D : Type 0} (tells : Bool) (seen : D → List ℕ) (moment : D → ℕ
 -- ---- desks
 
 pub whole_some : (wallet : Option WalletValue) (history : List Entry) → IsWhole wallet history → IsSome wallet
-whole_some wallet history (spare, is) = rw is refl
+whole_some wallet history is = rw is refl
 
 pub whole_is : (desk : DeskValue) (history : List Entry) → IsWhole desk.wallet history → history_at desk ≡ history
-whole_is desk history (spare, is) = ap (λ (w : Option WalletValue). option_map_or (λ w. w.history) w []) is
+whole_is desk history is = ap (λ (w : Option WalletValue). option_map_or (λ w. w.history) w []) is
 
 pub wallet_is : (desk : DeskValue) (w : WalletValue) → desk.wallet ≡ Some w → history_at desk ≡ w.history
 wallet_is desk w is = ap (λ (x : Option WalletValue). option_map_or (λ y. y.history) x []) is

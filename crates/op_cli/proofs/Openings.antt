@@ -1,9 +1,9 @@
 -- What an opening leaves, and what stands behind it.
-use Rattle.std.proofs.Common.{◌≡◌, ◌⊎◌, ◌≤◌, ◌<◌, ◌+◌, ◌++◌, ℕ, List, [], ◌∷◌, length, map, refl, sym, ap, subst, ◌∙◌, inl, inr, arith}
+use Rattle.std.proofs.Common.{◌≡◌, ◌⊎◌, ◌≤◌, ◌<◌, ◌+◌, ◌++◌, ℕ, List, [], length, sym, ap, subst, ◌∙◌, inl, inr, arith}
 use Rattle.std.proofs.lemmas.List.{append-nil}
 use Rattle.std.proofs.lemmas.List.Concat.{flat_map-append}
-use Rattle.op_desk.specs.Spelling.{Spells, SpellsRounds, history_of, records, opening_calls}
-use Rattle.op_journal.specs.Frames as frames
+use Rattle.op_desk.proofs.Recovering.{short_spells}
+use Rattle.op_desk.specs.Spelling.{Spells, SpellsRounds, history_of, opening_calls}
 use Rattle.op_journal.specs.Recovered.{IsOldOrShort}
 use Rattle.op_model.specs.declared.act.Entry.{Entry}
 use Rattle.op_session.specs.Session.{Final}
@@ -12,19 +12,10 @@ use Rattle.op_cli.specs.Applies.{EveryMoment}
 use Rattle.op_cli.specs.Kept.{AllSpell, SpellsFinal, Endures}
 use Rattle.op_cli.proofs.Journals.{spells_all, spells_longer}
 
-map_none : {X Y : Type 0} (f : X → Y) (xs : List X) → map f xs ≡ [] → xs ≡ []
-map_none f [] e = refl
-map_none f (x ∷ xs) e = absurd cc
-
--- a short disk spells the empty history
-rounds_none : (rounds : List (List Entry)) (bytes : List ℕ) → length bytes ≤ 9 → frames.Spells (map records rounds) bytes → rounds ≡ []
-rounds_none rounds bytes short (inl (le, none)) = map_none records rounds none
-rounds_none rounds bytes short (inr (long, place, spells)) = absurd (omega (arith, short, long))
-
 -- what an opening may leave spells the rounds that the disk spelled
 pub old_or_short_spells : (seen c : List ℕ) (rounds : List (List Entry)) → SpellsRounds rounds seen → IsOldOrShort (λ d. d ≡ seen) seen c → SpellsRounds rounds c
 old_or_short_spells seen c rounds s (inl same) = subst (λ (d : List ℕ). SpellsRounds rounds d) (sym same) s
-old_or_short_spells seen c rounds s (inr (short, is)) = subst (λ (r : List (List Entry)). SpellsRounds r c) (sym (rounds_none rounds seen short s.frames_are)) (record { have = tt; frames_are = inl (is, refl) })
+old_or_short_spells seen c rounds s (inr (short, is)) = short_spells rounds seen c short is s
 
 module _ {D : Type 0} (seen : D → List ℕ) (moment : D → ℕ) (since : D → ℕ → List ℕ → Type 0) (images : D → List ℕ → Type 0) where
   -- an opened disk has the rounds that were found

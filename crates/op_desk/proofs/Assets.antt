@@ -1,11 +1,12 @@
 -- What an added asset changes.
-use Rattle.std.proofs.Common.{◌≡◌, ℕ, suc, ◌+◌, ◌-◌, Bool, true, false, cond, ◌||◌, List, [], ◌∷◌, ◌++◌, length, Some, None, is_some, refl, sym, ap, subst, if◌then◌else◌, ◌∙◌, arith, inl, inr}
-use Rattle.std.specs.Prelude.{slice_get, codes, ◌≤◌, IsTrue, Ok}
-use Rattle.std.specs.List.{list_any, last_or, position_from, cons_option}
+use Rattle.std.proofs.Common.{◌≡◌, ℕ, suc, ◌+◌, Bool, true, false, cond, ◌||◌, List, [], ◌∷◌, ◌++◌, length, Some, None, is_some, refl, sym, ap, subst, if◌then◌else◌, ◌∙◌, arith, inl, inr}
+use Rattle.std.specs.Prelude.{codes, ◌≤◌, IsTrue, Ok}
+use Rattle.std.specs.List.{list_any, position_from, cons_option}
 use Rattle.std.specs.Option.{option_map_or, unwrap_or}
 use Rattle.std.specs.declared.option.Option.{Option}
 use Rattle.std.proofs.lemmas.List.{append-nil}
 use Rattle.std.proofs.lemmas.List.Elements.{filter_map-append}
+use Rattle.std.proofs.lemmas.List.Folds.{list_any-append}
 use Rattle.std.proofs.lemmas.Bool.Decides.{nat_tests}
 use Rattle.op_amount.specs.Code.{is_asset_code}
 use Rattle.op_amount.specs.Asset.{is_same_asset}
@@ -21,10 +22,16 @@ use Rattle.op_model.specs.Round.{FeesAllowed, refusal_reply}
 use Rattle.op_model.specs.declared.request.Task.TheVariants.{Ask}
 use Rattle.op_model.specs.declared.request.Verdict.{Verdict}
 use Rattle.op_desk.specs.Answers.{adds, may_add, reply_with}
+use Rattle.op_desk.specs.WalletInside.{AreAdded, IsAddedBy}
 use Rattle.op_desk.specs.Wallets.{Handles, IsSound, IsTaken}
 use Rattle.op_desk.specs.Built.{is_built}
 use Rattle.op_desk.proofs.Lists.{all-append}
+use Rattle.op_record.proofs.LengthLaws.{length_append, length_number}
+use Rattle.op_record.specs.Fields.{number}
+use Rattle.op_record.specs.Records.{record_of}
+use Rattle.op_record.specs.Rounds.{act_in}
 use Rattle.op_model.proofs.LegalNext.{legal-next}
+use Rattle.op_model.proofs.Next.{last_moment-next}
 use Rattle.op_model.specs.Answer.{ask_outcome}
 use Rattle.op_model.specs.Asking.{◌>>=◌, refuse_if}
 use Rattle.op_model.specs.Legal.{keeps_forms, no_verdict}
@@ -48,16 +55,6 @@ any_from asset n (e ∷ es) = any_step (λ row. is_same_asset row.asset asset) n
 
 pub any_adds : (asset : Asset) (history : List Entry) → list_any (adds asset) history ≡ is_some (asset_number history asset)
 any_adds asset history = any_from asset 1 history
-
--- ---- the last entry
-
-last_is_from : {X : Type 0} (o : Option X) (x : X) (xs : List X) → last_or o (x ∷ xs) ≡ slice_get (x ∷ xs) (length xs)
-last_is_from o x [] = refl
-last_is_from o x (y ∷ ys) = last_is_from (Some x) y ys
-
-pub last_is : {X : Type 0} (xs : List X) → last xs ≡ slice_get xs (length xs - 1)
-last_is [] = refl
-last_is (x ∷ xs) = let whole : suc (length xs) - 1 ≡ length xs = omega arith in rw whole (last_is_from None x xs)
 
 -- ---- the origin
 
@@ -107,10 +104,41 @@ pub loaded : (old new : List Entry) (e : Entry) → IsSound old → IsTaken old 
 loaded old new e sound taken grown =
     subst (λ (l : List Entry). IsSound l × (origin_of old ≡ origin_of l)) (sym grown) (sound_next old e sound taken, sym (origin_kept old e taken.built))
 
-pub grown_by_asset : (old new : List Entry) (t : ℕ) (asset : Asset) (pieces : ℕ) (e : Entry) → IsSound old → IsTrue (keeps_forms (AddAsset asset pieces)) → last_moment old ≤ t → t ≤ LAST → list_any (adds asset) old ≡ false
-    → e ≡ asset_entry t asset pieces → new ≡ old ++ e ∷ [] → IsSound new × (origin_of old ≡ origin_of new)
-grown_by_asset old new t asset pieces e sound forms later limit free is grown =
-    loaded old new e sound (subst (λ (x : Entry). IsTaken old x) (sym is) (next_asset old t asset pieces forms later limit free)) grown
+-- ---- the assets that are listed
+
+added_entry : (asset : Asset) (e : Entry) → list_any (adds asset) (e ∷ []) ≡ adds asset e
+added_entry asset e = elim (adds asset e) as (λ b. (b || false) ≡ b) [ true ↦ refl | false ↦ refl ]
+
+added_listed : (asset one : Asset) → list_any (λ (listed : Asset). is_same_asset listed asset) (one ∷ []) ≡ is_same_asset one asset
+added_listed asset one = elim (is_same_asset one asset) as (λ b. (b || false) ≡ b) [ true ↦ refl | false ↦ refl ]
+
+pub added_next : (assets : List Asset) (history : List Entry) (one : Asset) (e : Entry) → AreAdded assets history → IsAddedBy e one → AreAdded (assets ++ one ∷ []) (history ++ e ∷ [])
+added_next assets history one e are adds_one asset =
+    list_any-append (λ (listed : Asset). is_same_asset listed asset) assets (one ∷ [])
+    ∙ ap (λ (b : Bool). b || list_any (λ (listed : Asset). is_same_asset listed asset) (one ∷ [])) (are asset)
+    ∙ ap (λ (b : Bool). list_any (adds asset) history || b) (added_listed asset one ∙ sym (adds_one asset) ∙ sym (added_entry asset e))
+    ∙ sym (list_any-append (adds asset) history (e ∷ []))
+
+pub are_added : (assets new_assets : List Asset) (old new : List Entry) (one : Asset) (e : Entry) → AreAdded assets old → IsAddedBy e one → new_assets ≡ assets ++ one ∷ [] → new ≡ old ++ e ∷ [] → AreAdded new_assets new
+are_added assets new_assets old new one e are adds_one listed grown =
+    subst (λ (l : List Asset). AreAdded l new) (sym listed) (subst (λ (h : List Entry). AreAdded (assets ++ one ∷ []) h) (sym grown) (added_next assets old one e are adds_one))
+
+pub last_put : (old new : List Entry) (e : Entry) → new ≡ old ++ e ∷ [] → e.at ≡ last_moment new
+last_put old new e grown = sym (ap last_moment grown ∙ last_moment-next old e)
+
+pub listed_is : (assets deref : List Asset) (old history : List Entry) (asset : Asset) (told b : Bool) → AreAdded assets old → old ≡ history → deref ≡ assets → told ≡ list_any (λ (listed : Asset). is_same_asset listed asset) deref → told ≡ b
+    → list_any (adds asset) history ≡ b
+listed_is assets deref old history asset told b are same is told_is test =
+    ap (λ (h : List Entry). list_any (adds asset) h) (sym same) ∙ sym (are asset) ∙ ap (λ (l : List Asset). list_any (λ (listed : Asset). is_same_asset listed asset) l) (sym is) ∙ sym told_is ∙ test
+
+pub record_length : (e : Entry) → length (record_of e) ≡ 8 + length (act_in e)
+unfolding record_of
+record_length e = omega (arith, length_append (number 8 e.at) (act_in e), length_number 8 e.at)
+
+pub adds_its_asset : (e : Entry) (code : List ℕ) (scale pieces : ℕ) → e.act ≡ acts.AssetAdded code scale pieces → IsAddedBy e (record { code = code; scale = scale })
+adds_its_asset e code scale pieces is asset = ap (λ (act : Act). adds asset (record { at = e.at; act = act })) is
+
+-- ---- the code of an asset
 
 some_code_where : (text x : List ℕ) (b : Bool) → Some x ≡ (if b then Some text else None) → (b ≡ true) × (x ≡ text)
 some_code_where text x true is = (refl, cc)

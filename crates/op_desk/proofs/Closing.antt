@@ -1,9 +1,11 @@
 -- What a commit leaves, as rounds.
-use Rattle.std.proofs.Common.{◌≡◌, ◌≢◌, inl, inr, ⊎_elim, ℕ, ◌+◌, ◌≤◌, ◌<◌, List, [], ◌∷◌, ◌++◌, length, length-append, take, map, get_or, refl, sym, ap, ◌∙◌, subst, arith, length-take}
+use Rattle.std.proofs.Common.{◌≡◌, ◌≢◌, inl, inr, ⊎_elim, ℕ, ◌+◌, ◌≤◌, ◌<◌, List, [], ◌∷◌, ◌++◌, length, length-append, take, get_or, refl, sym, ap, ◌∙◌, subst, arith, length-take}
 use Rattle.std.proofs.lemmas.Bool.{cases_lt}
 use Rattle.std.proofs.lemmas.List.{get_or-take, take-take}
 use Rattle.std.proofs.lemmas.List.Concat.{flat_map-append}
 use Rattle.std.specs.Int.{w32, to_be_bytes}
+use Rattle.std.specs.Option.{option_map_or}
+use Rattle.std.specs.declared.option.Option.{Option}
 use Rattle.op_disk.proofs.Moments.{started}
 use Rattle.op_disk.specs.Calls.{LeavesOnly}
 use Rattle.op_journal.specs.Commits as journal
@@ -11,14 +13,12 @@ use Rattle.op_journal.specs.Commits.{IsSettled, payload_of}
 use Rattle.op_journal.specs.Frames as layout
 use Rattle.op_journal.specs.Frames.{Holds, SpellsUpTo, header, limit, frame, frames}
 use Rattle.op_model.specs.declared.act.Entry.{Entry}
-use Rattle.op_record.specs.Cuts.{HasRecord}
-use Rattle.op_desk.specs.Spelling.{records, HaveRecords, history_of, SpellsRounds, SpellsEither, LacksRoom, Stands, with_round}
-use Rattle.std.specs.Option.{option_map_or}
-use Rattle.std.specs.declared.option.Option.{Option}
+use Rattle.op_record.specs.Rounds.{IsRound, moment_of, round_of}
 use Rattle.op_desk.specs.Batches.{IsWhole}
+use Rattle.op_desk.specs.Spelling.{AreRounds, history_of, SpellsRounds, SpellsEither, LacksRoom, Stands, with_round}
 use Rattle.op_desk.specs.Wallets.{WalletValue}
-use Rattle.op_desk.proofs.Lists.{all-append}
-use Rattle.op_desk.proofs.Recovering.{history_of-next, records_of-next, gate_size, none_framed}
+use Rattle.op_desk.proofs.Recovering.{gate_size, none_framed}
+use Rattle.op_desk.proofs.Rounds.{one_more_round, round_size}
 
 shorter_front : (n m : ℕ) (bytes x : List ℕ) → n ≤ m → take m x ≡ take m bytes → take n x ≡ take n bytes
 shorter_front n m bytes x le same = sym (take-take n m x le) ∙ ap (λ (l : List ℕ). take n l) same ∙ take-take n m bytes le
@@ -43,17 +43,17 @@ all_spelled payloads place bytes spells = elim (cases_lt 9 (length bytes)) [
   | inr short ↦ inl (short, none_framed payloads (omega (arith, short, gate_size payloads place bytes spells.holds, spells.holds.gate)))
 ]
 
-pub rounds_spelled : (rounds : List (List Entry)) (tail : ℕ) (c : List ℕ) → HaveRecords (history_of rounds) → SpellsUpTo (map records rounds) tail c → SpellsRounds rounds c
-rounds_spelled rounds tail c have upto = record { have = have; frames_are = all_spelled (map records rounds) tail c upto }
+pub rounds_spelled : (rounds : List (List Entry)) (payloads : List (List ℕ)) (tail : ℕ) (c : List ℕ) → AreRounds payloads rounds → SpellsUpTo payloads tail c → SpellsRounds rounds c
+rounds_spelled rounds payloads tail c are upto = record { payloads = payloads; are = are; frames_are = all_spelled payloads tail c upto }
 
 -- each image of a disk that stands spells its rounds
 pub image_spells : (rounds : List (List Entry)) (tail : ℕ) (seen : List ℕ) (images : List ℕ → Type 0) (c : List ℕ) → Stands rounds tail seen images → images c → SpellsRounds rounds c
 image_spells rounds tail seen images c stands here =
-    rounds_spelled rounds tail c stands.have (same_spells (map records rounds) tail seen c stands.holds stands.settled.closed.1 (stands.settled.alike c here))
+    rounds_spelled rounds stands.payloads tail c stands.are (same_spells stands.payloads tail seen c stands.holds stands.settled.closed.1 (stands.settled.alike c here))
 
 -- a desk has one history
 pub one_history : (wallet : Option WalletValue) (a b : List Entry) → IsWhole wallet a → IsWhole wallet b → a ≡ b
-one_history wallet a b x y = ap (λ (o : Option WalletValue). option_map_or (λ (w : WalletValue). w.history) o []) (sym x.1 ∙ y.1)
+one_history wallet a b x y = ap (λ (o : Option WalletValue). option_map_or (λ (w : WalletValue). w.history) o []) (sym x ∙ y)
 
 -- ---- the new round
 
@@ -61,27 +61,22 @@ pub with_some : (rounds : List (List Entry)) (round : List Entry) → (round ≡
 with_some rounds [] some = absurd (some refl)
 with_some rounds (e ∷ es) some = refl
 
-have_more : (rounds : List (List Entry)) (round : List Entry) → HaveRecords (history_of rounds) → HaveRecords round → HaveRecords (history_of (rounds ++ round ∷ []))
-have_more rounds round have more = subst HaveRecords (sym (history_of-next rounds round)) (all-append HasRecord (history_of rounds) round have more)
-
-payloads_more : (rounds : List (List Entry)) (round : List Entry) (body : List ℕ) → payload_of body ≡ records round → map records rounds ++ payload_of body ∷ [] ≡ map records (rounds ++ round ∷ [])
-payloads_more rounds round body payload = ap (λ (p : List ℕ). map records rounds ++ p ∷ []) payload ∙ sym (records_of-next rounds round)
-
-pub stands_more : (rounds : List (List Entry)) (round : List Entry) (body : List ℕ) (tail : ℕ) (seen : List ℕ) (images : List ℕ → Type 0) → (round ≡ [] → ⊥) → HaveRecords (history_of rounds) → HaveRecords round → payload_of body ≡ records round
-    → SpellsUpTo (map records rounds ++ payload_of body ∷ []) tail seen → IsSettled tail seen images → Stands (with_round rounds round) tail seen images
-stands_more rounds round body tail seen images some have more payload upto settled =
+pub stands_more : (rounds : List (List Entry)) (round : List Entry) (payloads : List (List ℕ)) (body : List ℕ) (tail : ℕ) (seen : List ℕ) (images : List ℕ → Type 0) → (round ≡ [] → ⊥) → AreRounds payloads rounds → IsRound (payload_of body) round
+    → SpellsUpTo (payloads ++ payload_of body ∷ []) tail seen → IsSettled tail seen images → Stands (with_round rounds round) tail seen images
+stands_more rounds round payloads body tail seen images some are is upto settled =
     subst (λ (all : List (List Entry)). Stands all tail seen images) (sym (with_some rounds round some)) (record {
-      have = have_more rounds round have more;
-      holds = subst (λ (l : List (List ℕ)). Holds l tail seen) (payloads_more rounds round body payload) upto.holds;
+      payloads = payloads ++ payload_of body ∷ [];
+      are = one_more_round payloads rounds (payload_of body) round are is;
+      holds = upto.holds;
       settled = settled;
     })
 
-either_more : (rounds : List (List Entry)) (round : List Entry) (body : List ℕ) (tail : ℕ) (c : List ℕ) → (round ≡ [] → ⊥) → HaveRecords (history_of rounds) → HaveRecords round → payload_of body ≡ records round
-    → journal.SpellsEither (map records rounds) tail body c → SpellsEither rounds round c
-either_more rounds round body tail c some have more payload (inl old) = inl (rounds_spelled rounds tail c have old)
-either_more rounds round body tail c some have more payload (inr new) =
+either_more : (rounds : List (List Entry)) (round : List Entry) (payloads : List (List ℕ)) (body : List ℕ) (tail : ℕ) (c : List ℕ) → (round ≡ [] → ⊥) → AreRounds payloads rounds → IsRound (payload_of body) round
+    → journal.SpellsEither payloads tail body c → SpellsEither rounds round c
+either_more rounds round payloads body tail c some are is (inl old) = inl (rounds_spelled rounds payloads tail c are old)
+either_more rounds round payloads body tail c some are is (inr new) =
     inr (subst (λ (all : List (List Entry)). SpellsRounds all c) (sym (with_some rounds round some))
-    (rounds_spelled (rounds ++ round ∷ []) (tail + length body) c (have_more rounds round have more) (subst (λ (l : List (List ℕ)). SpellsUpTo l (tail + length body) c) (payloads_more rounds round body payload) new)))
+    (rounds_spelled (rounds ++ round ∷ []) (payloads ++ payload_of body ∷ []) (tail + length body) c (one_more_round payloads rounds (payload_of body) round are is) new))
 
 -- ---- at every moment
 
@@ -93,10 +88,10 @@ module _ {D : Type 0} (moment : D → ℕ) (since : D → ℕ → List ℕ → T
     before = λ t c le left. ⊎_elim (λ was. inl was) (λ here. inr (also c here)) (only.before t c le left);
   }
 
-  pub moments_more : (old new : D) (rounds : List (List Entry)) (round : List Entry) (body : List ℕ) (tail : ℕ) → (round ≡ [] → ⊥) → HaveRecords (history_of rounds) → HaveRecords round → payload_of body ≡ records round
-      → LeavesOnly moment since old new (journal.SpellsEither (map records rounds) tail body) → LeavesOnly moment since old new (SpellsEither rounds round)
-  moments_more old new rounds round body tail some have more payload only =
-      weakened old new (journal.SpellsEither (map records rounds) tail body) (SpellsEither rounds round) only (λ c either. either_more rounds round body tail c some have more payload either)
+  pub moments_more : (old new : D) (rounds : List (List Entry)) (round : List Entry) (payloads : List (List ℕ)) (body : List ℕ) (tail : ℕ) → (round ≡ [] → ⊥) → AreRounds payloads rounds → IsRound (payload_of body) round
+      → LeavesOnly moment since old new (journal.SpellsEither payloads tail body) → LeavesOnly moment since old new (SpellsEither rounds round)
+  moments_more old new rounds round payloads body tail some are is only =
+      weakened old new (journal.SpellsEither payloads tail body) (SpellsEither rounds round) only (λ c either. either_more rounds round payloads body tail c some are is either)
 
   -- where nothing is done
   pub moments_none : (seen : D → List ℕ) (images : D → List ℕ → Type 0) (only_now : (d : D) (c : List ℕ) → since d (moment d) c → images d c) (d : D) (rounds : List (List Entry)) (round : List Entry) (tail : ℕ)
@@ -109,18 +104,23 @@ module _ {D : Type 0} (moment : D → ℕ) (since : D → ℕ → List ℕ → T
 frame_size : (payload : List ℕ) → length (frame payload) ≡ 5 + length payload
 frame_size payload = omega (arith, length-append (to_be_bytes w32 (length payload)) payload)
 
-pub lacks_room : (rounds : List (List Entry)) (before round : List Entry) (tail : ℕ) (seen : List ℕ) (images : List ℕ → Type 0) → Stands rounds tail seen images → images seen → history_of rounds ≡ before → limit < tail + (length (records round) + 6) → LacksRoom before (before ++ round) seen
-lacks_room rounds before round tail seen images stands here found past =
-    let old = map records rounds in
-    let size : length (header ++ frames (map records (rounds ++ round ∷ []))) ≡ 8 + (length (frames old) + (5 + length (records round))) =
-    ap (λ (l : List (List ℕ)). length (header ++ frames l)) (records_of-next rounds round)
-    ∙ (ap (λ (l : List ℕ). length (header ++ l)) (flat_map-append frame old (records round ∷ []))
-    ∙ omega (arith, length-append header (frames old ++ frames (records round ∷ [])), length-append (frames old) (frames (records round ∷ [])), length-append (frame (records round)) [], frame_size (records round))) in
+pub lacks_room : (rounds : List (List Entry)) (before round : List Entry) (at tail : ℕ) (seen : List ℕ) (images : List ℕ → Type 0) → Stands rounds tail seen images → images seen → history_of rounds ≡ before
+    → limit < tail + (length (round_of at round) + 6) → LacksRoom before (before ++ round) seen
+lacks_room rounds before round at tail seen images stands here found past =
+    let old = stands.payloads in
+    let new = round_of (moment_of round) round in
+    let size : length (header ++ frames (old ++ new ∷ [])) ≡ 8 + (length (frames old) + (5 + length new)) =
+    ap (λ (l : List ℕ). length (header ++ l)) (flat_map-append frame old (new ∷ []))
+    ∙ omega (arith, length-append header (frames old ++ frames (new ∷ [])), length-append (frames old) (frames (new ∷ [])), length-append (frame new) [], frame_size new) in
     record {
       rounds = rounds;
-      spelled = image_spells rounds tail seen images seen stands here;
+      spelled = record {
+        payloads = old;
+        are = stands.are;
+        frames_are = all_spelled old tail seen (same_spells old tail seen seen stands.holds stands.settled.closed.1 (stands.settled.alike seen here));
+      };
       found = found;
       round = round;
       wanted = refl;
-      passes = omega (arith, past, size, gate_size old tail seen stands.holds);
+      passes = omega (arith, past, size, gate_size old tail seen stands.holds, round_size at round, round_size (moment_of round) round);
     }

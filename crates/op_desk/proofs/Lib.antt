@@ -4,6 +4,6 @@ pub mod Closing
 mod CodeText
 pub mod Lists
 mod Payloads
-pub mod Records
 pub mod Recovering
 pub mod Unique
+pub mod Rounds

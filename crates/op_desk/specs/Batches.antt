@@ -34,4 +34,4 @@ pub record DeskValue : Type 0 where
 
 -- a desk is whole: it has its wallet, and that has this history
 abbrev pub IsWhole : Option WalletValue → List Entry → Type 0
-IsWhole wallet history = (spare : ℕ) × (wallet ≡ Some (record { history = history; spare = spare }))
+IsWhole wallet history = wallet ≡ Some (record { history = history })

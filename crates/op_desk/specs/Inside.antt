@@ -1,10 +1,11 @@
 -- What a batch keeps.
-use Rattle.std.specs.Prelude.{◌≡◌, ◌+◌, ◌*◌, ◌≤◌, List, length, take, drop, vec_len, vec_capacity}
+use Rattle.std.specs.Prelude.{◌≡◌, ◌+◌, ◌≤◌, List, length, take, drop, Some}
+use Rattle.std.specs.List.{AllByRecursion}
 use Rattle.op_model.specs.History.{last_moment}
 use Rattle.op_model.specs.declared.act.Entry.{Entry}
 use Rattle.op_desk.specs.Batches.{BatchValue, unused}
-use Rattle.op_desk.specs.Spelling.{records, HaveRecords}
-use Rattle.op_desk.specs.Wallets.{IsSound}
+use Rattle.op_desk.specs.Wallets.{IsSound, FitsRound}
+use Rattle.op_desk.specs.declared.TheConstants.{TASK_LIMIT}
 use Rattle.op_desk.specs.declared.batch.Batch.TheInside.{Inside}
 
 -- the round's entries are those behind the history at which it began
@@ -18,12 +19,10 @@ pub record IsKept (b : Inside) : Type 0 where
   pub sound : IsSound b.wallet.history
   pub later : last_moment b.wallet.history ≤ b.moment
   pub begun : b.begun ≤ length b.wallet.history
-  pub have : HaveRecords (entries_of b)
-  -- behind four bytes the body has the entries' records, and a byte is free
-  pub four : 4 ≤ length b.body.items
-  pub payload : drop 4 b.body.items ≡ records (entries_of b)
-  pub free : vec_len b.body + 1 ≤ vec_capacity b.body
-  pub small : length (records (entries_of b)) ≤ 21 * length (entries_of b)
+  -- the wallet's open round is this one
+  pub moment : b.wallet.moment ≡ Some b.moment
+  pub round : b.wallet.round ≡ entries_of b
+  pub fit : AllByRecursion (FitsRound b.moment) (entries_of b)
   -- each index has its place, and each entry has used one
   pub places : length b.used.items ≡ length b.places.items
-  pub indexes : length (entries_of b) + unused b.used.items ≤ 272
+  pub indexes : length (entries_of b) + unused b.used.items ≤ TASK_LIMIT

@@ -9,3 +9,4 @@ pub mod Laws
 pub mod Payloads
 pub mod Reading
 pub mod Batches
+pub mod WalletInside

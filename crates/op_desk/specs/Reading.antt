@@ -1,9 +1,9 @@
--- Where reading a journal from the front first fails: frame by frame, of each frame first its records, then the legality of its entries.
-use Rattle.std.specs.Prelude.{◌≡◌, ◌≢◌, ◌⊎◌, ◌<◌, ◌+◌, ℕ, List, ◌∷◌, ◌++◌, length, take, map}
+-- Where reading a journal from the front first fails: frame by frame, of each frame first its payload, then the legality of its entries.
+use Rattle.std.specs.Prelude.{◌≡◌, ◌≢◌, ◌⊎◌, ◌<◌, ◌+◌, ℕ, List, ◌∷◌, ◌++◌, length, take}
 use Rattle.op_model.specs.declared.act.Entry.{Entry}
-use Rattle.op_record.specs.Cuts.{IsCut, IsBadAt}
+use Rattle.op_record.specs.Rounds.{IsRound, IsCutRound, IsBadRoundAt}
 use Rattle.op_journal.specs.Frames.{Holds, IsFrameAt, IsBadFrame, header}
-use Rattle.op_desk.specs.Spelling.{records, HaveRecords, history_of}
+use Rattle.op_desk.specs.Spelling.{AreRounds, history_of}
 use Rattle.op_desk.specs.Wallets.{IsSound, IsTaken}
 use Rattle.op_desk.specs.declared.fault.DeskFault.{DeskFault}
 use Rattle.op_desk.specs.declared.fault.DeskFault.TheVariants as faults
@@ -16,8 +16,9 @@ pub record IsBadHeader (bytes : List ℕ) : Type 0 where
 -- a disk of more than 9 bytes has the frames of these rounds, which are legal, and then a gate at this place
 pub record IsReadTo (rounds : List (List Entry)) (place : ℕ) (bytes : List ℕ) : Type 0 where
   pub long : 9 < length bytes
-  pub have : HaveRecords (history_of rounds)
-  pub holds : Holds (map records rounds) place bytes
+  pub payloads : List (List ℕ)
+  pub are : AreRounds payloads rounds
+  pub holds : Holds payloads place bytes
   pub sound : IsSound (history_of rounds)
 
 -- behind the rounds that were read stands a bad frame
@@ -26,15 +27,12 @@ pub record FailsAtFrame (bytes : List ℕ) (at : ℕ) : Type 0 where
   pub read : IsReadTo rounds at bytes
   pub bad : IsBadFrame at bytes
 
--- whole records, and then, at this place of the payload, a byte with which no record begins or goes on; or the payload's end cuts a record
-pub record IsBrokenAt (payload : List ℕ) (at : ℕ) : Type 0 where
-  pub entries : List Entry
-  pub rest : List ℕ
-  pub have : HaveRecords entries
-  pub split : payload ≡ records entries ++ rest
-  pub broken : ((0 < length rest) × IsCut rest × (at ≡ length payload)) ⊎ ((bad : ℕ) × IsBadAt rest bad × (at ≡ length (records entries) + bad))
+-- A payload is no round: it ends within one, and the place is that behind it; or at this place stands the first byte with which no
+-- round of either version begins or goes on.
+abbrev pub IsBrokenAt : List ℕ → ℕ → Type 0
+IsBrokenAt payload at = (IsCutRound payload × (at ≡ length payload)) ⊎ IsBadRoundAt payload at
 
--- behind the rounds that were read stands a whole frame, whose payload is no list of records
+-- behind the rounds that were read stands a whole frame, whose payload is no round
 pub record FailsAtRecord (bytes : List ℕ) (at : ℕ) : Type 0 where
   pub rounds : List (List Entry)
   pub gate : ℕ
@@ -55,14 +53,15 @@ pub record StopsAtEntry (history entries : List Entry) (number : ℕ) : Type 0 w
   pub illegal : IsTaken (history ++ before) entry → ⊥
   pub place : number ≡ length (history ++ before) + 1
 
--- behind the rounds that were read stands a whole frame of records, and the entry of this number may not follow those before it
+-- behind the rounds that were read stands a whole frame with a round, and the entry of this number may not follow those before it
 pub record FailsAtEntry (bytes : List ℕ) (number : ℕ) : Type 0 where
   pub rounds : List (List Entry)
   pub gate : ℕ
+  pub payload : List ℕ
   pub round : List Entry
   pub read : IsReadTo rounds gate bytes
-  pub have : HaveRecords round
-  pub frame : IsFrameAt gate (records round) bytes
+  pub is : IsRound payload round
+  pub frame : IsFrameAt gate payload bytes
   pub stops : StopsAtEntry (history_of rounds) round number
 
 -- no fault of the bytes: one of the disk, or want of memory

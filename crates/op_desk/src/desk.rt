@@ -10,8 +10,10 @@ ghost use Rattle.op_model.specs.History.{last_moment};
 ghost use Rattle.op_model.specs.declared.act.Entry.{Entry};
 ghost use Rattle.op_desk.specs.Batches.{DeskValue, IsWhole, history_in};
 ghost use Rattle.op_desk.specs.Reading.{Fails, IsFree};
-ghost use Rattle.op_desk.specs.Spelling.{Spells, SpellsSound, SpellsRounds, SpellsEither, LacksRoom, Stands, with_round, history_of, records, opening_calls};
-ghost use Rattle.op_desk.specs.Wallets.{WalletValue, IsSound};
+ghost use Rattle.op_record.specs.Rounds.{round_of};
+ghost use Rattle.op_desk.specs.Spelling.{Spells, SpellsSound, SpellsRounds, SpellsEither, LacksRoom, Stands, with_round, history_of, opening_calls};
+ghost use Rattle.op_desk.specs.Wallets.{WalletValue, IsSound, shown};
+ghost use Rattle.op_desk.specs.declared.TheConstants.{TASK_LIMIT};
 
 use crate::batch::{Batch, Committed, Round};
 use crate::payload::load_payload;
@@ -73,7 +75,9 @@ impl Desk {
             Ok(recovery) => recovery,
             Err(fault) => return Err(DeskFault::from(fault)),
         };
-        let mut wallet = Wallet::new(alloc);
+        let Ok(mut wallet) = Wallet::new(alloc) else {
+            return Err(DeskFault::Memory);
+        };
         let mut payload = Vec::new(alloc);
         let mut gate = 8;
         for _frame in 0..LIMIT {
@@ -99,7 +103,7 @@ impl Desk {
     /// The wallet. The desk is whole: no round runs, and none was refused.
     pub fn wallet(&self) -> &Wallet
         requires whole { IsSome self.now.wallet }
-        ensures value { (w : WalletValue) × (self.now.wallet ≡ Some w) × (result.now ≡ w) }
+        ensures value { (w : WalletValue) × (self.now.wallet ≡ Some w) × (shown result.now ≡ w) }
         ensures sound { IsSound result.now.history }
     {
         match &self.wallet {
@@ -113,24 +117,20 @@ impl Desk {
     pub fn begin(&mut self, alloc: Global, t: Moment, tasks: u64) -> Result<Batch, AllocError>
         requires whole { IsSome self.old.wallet }
         requires later { IfSome self.old.wallet (λ w. last_moment w.history ≤ t) }
-        requires tasks { tasks ≤ 272 }
+        requires tasks { tasks ≤ TASK_LIMIT }
         ensures begun { IfOk result (λ batch. IsWhole self.old.wallet batch.begun × IsSound batch.begun) }
         ensures fresh { IfOk result (λ batch. (batch.moment ≡ t) × (batch.entries ≡ []) × (batch.places ≡ replicate tasks 0) × (batch.used ≡ replicate tasks false)) }
         ensures running { OnOk result ((self.new.wallet ≡ None) × (self.new.tail ≡ self.old.tail) × (self.new.closed ≡ false)) }
         ensures refused { OnErr result (self.new ≡ self.old) }
     {
-        let mut body = Vec::new(alloc);
-        body.reserve(5)?;
-        body.extend_from_slice(&[0; 4])?;
-        let scratch = Vec::new(alloc);
         let places = vec![in alloc; 0; tasks as usize]?;
         let used = vec![in alloc; false; tasks as usize]?;
         match &mut self.wallet {
-            Some(wallet) => wallet.reserve(tasks)?,
+            Some(wallet) => open_round(wallet, t, tasks)?,
             None => unreachable!(),
         }
         match self.wallet.take() {
-            Some(wallet) => Ok(Batch::new(body, scratch, places, used, wallet, t)),
+            Some(wallet) => Ok(Batch::new(places, used, wallet, t)),
             None => unreachable!(),
         }
     }
@@ -163,16 +163,16 @@ impl Desk {
         ensures refused { OnErr result (IsNone self.new.wallet) }
         ensures cause { (IsErrOf result RoundFault.DiskFault → ⊥) → D.faults disk.new ≡ D.faults disk.old }
         ensures fault { IsErrOf result RoundFault.DiskFault → Rose (D.faults disk.old) (D.faults disk.new) }
-        ensures full { (tail need : ℕ) → IsErrOf result (RoundFault.Full tail need) → (batch.entries ≢ []) × (tail ≡ self.old.tail) × (need ≡ length (records batch.entries) + 6) × (limit < tail + need) × (disk.new ≡ disk.old) }
+        ensures full { (tail need : ℕ) → IsErrOf result (RoundFault.Full tail need) → (batch.entries ≢ []) × (tail ≡ self.old.tail) × (need ≡ length (round_of batch.moment batch.entries) + 6) × (limit < tail + need) × (disk.new ≡ disk.old) }
         ensures no_room { (tail need : ℕ) → IsErrOf result (RoundFault.Full tail need) → IsTrue D.tells → LacksRoom batch.begun (history_in batch) (D.seen disk.new) }
-        ensures full_where { batch.entries ≢ [] → limit < self.old.tail + (length (records batch.entries) + 6) → IsErrOf result (RoundFault.Full self.old.tail (length (records batch.entries) + 6)) }
+        ensures full_where { batch.entries ≢ [] → limit < self.old.tail + (length (round_of batch.moment batch.entries) + 6) → IsErrOf result (RoundFault.Full self.old.tail (length (round_of batch.moment batch.entries) + 6)) }
     {
         self.wallet = None;
         let round = batch.into_round();
         if !round.has_entries {
             return Ok(self.take_back(round));
         }
-        commit(&mut self.journal, disk, &round.body)?;
+        commit(&mut self.journal, disk, round.body())?;
         Ok(self.take_back(round))
     }
 
@@ -191,6 +191,16 @@ impl Desk {
             count,
         }
     }
+}
+
+/// Opens a round at a moment, with room for so many steps, expiries and attempts.
+fn open_round(wallet: &mut Wallet, t: Moment, tasks: u64) -> Result<(), AllocError>
+    requires { last_moment wallet.old.history ≤ t }
+    ensures same { wallet.new.history ≡ wallet.old.history }
+    ensures opened { OnOk result ((wallet.new.moment ≡ Some t) × (wallet.new.round ≡ []) × (tasks ≤ wallet.new.spare)) }
+{
+    wallet.open_round(t)?;
+    wallet.reserve(tasks)
 }
 
 /// Commits a frame to a journal that no fault has closed.

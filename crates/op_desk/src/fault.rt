@@ -6,7 +6,7 @@ ghost use Rattle.op_desk.specs.Faults.{of_journal, of_wallet};
 use op_journal::JournalFault;
 
 /// Why no desk was made of a disk: the first thing that reading from the front met. Payloads are looked at in order, and
-/// of each payload first its records and then the legality of its entries.
+/// of each payload first whether it is a round and then the legality of its entries.
 #[derive(Clone, Copy, Debug, PartialEq, Eq)]
 pub enum DeskFault {
     /// A call on the disk failed.
@@ -15,8 +15,8 @@ pub enum DeskFault {
     BadHeader,
     /// The gate at this place of the disk is open, and no whole frame stands behind it.
     BadFrame { at: u64 },
-    /// The byte at this place of the disk is the first with which no record can begin or go on. For a record that its
-    /// payload's end cuts, it is the first place behind the payload.
+    /// The byte at this place of the disk is the first with which no round of either version can begin or go on. For a round
+    /// that its payload's end cuts, it is the first place behind the payload.
     BadRecord { at: u64 },
     /// The entry of this number, from 1, may not follow those before it.
     Illegal { place: u64 },

@@ -1,70 +1,85 @@
-//! The payload of a frame: its records, and the legality of their entries.
-ghost use Rattle.std.specs.Prelude.{◌≡◌, ◌⊎◌, ◌+◌, ◌<◌, ◌^◌, ◌++◌, ℕ, List, length, drop, OnOk, IfOk, IfErr, IsErrOf};
-ghost use Rattle.op_record.specs.Cuts.{IsFound, IsCut, IsBadAt};
+//! The payload of a frame: its round, and the legality of its entries.
+ghost use Rattle.std.specs.Prelude.{◌≡◌, ◌⊎◌, ◌+◌, ◌<◌, ◌^◌, ◌++◌, ◌∷◌, [], ℕ, List, length, OnOk, IfOk, IfErr, IsErrOf};
+ghost use Rattle.std.specs.List.{AllByRecursion};
 ghost use Rattle.op_model.specs.declared.act.Entry.{Entry};
-ghost use Rattle.op_desk.specs.Payloads.{IsRound, IsOfPayload};
+ghost use Rattle.op_record.specs.Rounds.{IsRound, IsInRound};
+ghost use Rattle.op_desk.specs.Payloads.{IsLoaded, IsOfPayload, CanBePut};
 ghost use Rattle.op_desk.specs.Reading.{IsBrokenAt, StopsAtEntry};
-ghost use Rattle.op_desk.specs.Spelling.{records, HaveRecords};
-ghost use Rattle.op_desk.specs.Wallets.{IsSound};
+ghost use Rattle.op_desk.specs.Wallets.{IsSound, IsTaken, IsAtLast};
+ghost use Rattle.op_desk.specs.declared.fault.LoadFault.TheVariants as load_faults;
 
-use crate::{DeskFault, Wallet};
+use crate::{DeskFault, LoadFault, Wallet};
 use op_model::Entry;
-use op_record::{RecordFault, read_entry};
+use op_record::{RecordFault, read_round};
 use std::alloc::Global;
 
-/// The first entry of the rest of a payload, and how many bytes its record takes. The rest's first byte stands at `place`
-/// of the disk.
-fn read_next(alloc: Global, rest: &[u8], place: u64) -> Result<(Entry, usize), DeskFault>
-    requires { place + length rest.now < 2 ^ 64 }
-    ensures found { IfOk result (λ x. IsFound rest.now x.0 x.1) }
-    ensures broken { (bad : ℕ) → IsErrOf result (DeskFault.BadRecord bad)
-        → (IsCut rest.now × (bad ≡ place + length rest.now)) ⊎ ((within : ℕ) × IsBadAt rest.now within × (bad ≡ place + within)) }
-    ensures refusals { IfErr result (λ e. (e ≡ DeskFault.Memory) ⊎ ((bad : ℕ) × (e ≡ DeskFault.BadRecord bad))) }
+/// The entries of a payload, of either version. Its first byte stands at `place` of the disk.
+fn read_entries(alloc: Global, payload: &[u8], place: u64) -> Result<Vec<Entry>, DeskFault>
+    requires { place + length payload.now < 2 ^ 64 }
+    ensures read { IfOk result (λ entries. IsRound payload.now entries.items) }
+    ensures broken { (at : ℕ) → IsErrOf result (DeskFault.BadRecord at) → (within : ℕ) × IsBrokenAt payload.now within × (at ≡ place + within) }
+    ensures refusals { IfErr result (λ e. (e ≡ DeskFault.Memory) ⊎ ((at : ℕ) × (e ≡ DeskFault.BadRecord at))) }
 {
-    match read_entry(alloc, rest) {
-        Ok(found) => Ok(found),
+    let mut entries = Vec::new(alloc);
+    match read_round(alloc, payload, &mut entries) {
+        Ok(()) => Ok(entries),
         Err(RecordFault::Short) => Err(DeskFault::BadRecord {
-            at: place + rest.len() as u64,
+            at: place + payload.len() as u64,
         }),
         Err(RecordFault::Bad { at }) => Err(DeskFault::BadRecord { at: place + at }),
         Err(RecordFault::Memory) => Err(DeskFault::Memory),
     }
 }
 
-/// The entries whose records a payload is. Its first byte stands at `place` of the disk.
-fn read_entries(alloc: Global, payload: &[u8], place: u64) -> Result<Vec<Entry>, DeskFault>
-    requires { place + length payload.now < 2 ^ 64 }
-    ensures read { IfOk result (λ entries. HaveRecords entries.items × (payload.now ≡ records entries.items)) }
-    ensures broken { (at : ℕ) → IsErrOf result (DeskFault.BadRecord at) → (within : ℕ) × IsBrokenAt payload.now within × (at ≡ place + within) }
-    ensures refusals { IfErr result (λ e. (e ≡ DeskFault.Memory) ⊎ ((at : ℕ) × (e ≡ DeskFault.BadRecord at))) }
+/// Opens a round for an entry, unless the last entry's has its moment. `Illegal` exactly where the entry's moment is below
+/// the last one, with the entry's number.
+fn open_for(wallet: &mut Wallet, entry: &Entry) -> Result<(), LoadFault>
+    requires { IsAtLast wallet.old }
+    ensures same { wallet.new.history ≡ wallet.old.history }
+    ensures opened { OnOk result (wallet.new.moment ≡ Some entry.now.at) }
+    ensures illegal { (place : ℕ) → IsErrOf result (LoadFault.Illegal place) → (place ≡ length wallet.old.history + 1) × (IsTaken wallet.old.history entry.now → ⊥) }
 {
-    let mut entries = Vec::new(alloc);
-    let mut at = 0;
-    while at < payload.len() {
-        let rest = &payload[at..];
-        let (entry, taken) = match read_next(alloc, rest, place + at as u64) {
-            Ok(found) => found,
-            Err(fault) => return Err(fault),
-        };
-        match entries.push(entry) {
-            Ok(()) => {}
-            Err(_) => return Err(DeskFault::Memory),
-        }
-        at += taken;
+    let last = wallet.last().ms();
+    if entry.at.ms() < last {
+        return Err(LoadFault::Illegal {
+            place: wallet.count() + 1,
+        });
     }
-    Ok(entries)
+    if last < entry.at.ms() || wallet.count() == 0 {
+        match wallet.open_round(entry.at) {
+            Ok(()) => {}
+            Err(_) => return Err(LoadFault::Memory),
+        }
+    }
+    Ok(())
+}
+
+/// Takes an entry into a wallet, in a round at its moment.
+fn load_entry(wallet: &mut Wallet, entry: &Entry) -> Result<(), LoadFault>
+    requires last { IsAtLast wallet.old }
+    requires fits { CanBePut entry.now }
+    ensures ok { OnOk result (wallet.new.history ≡ wallet.old.history ++ entry.now ∷ []) }
+    ensures last { OnOk result (IsAtLast wallet.new) }
+    ensures sound { OnOk result (IsSound wallet.new.history) }
+    ensures illegal { (place : ℕ) → IsErrOf result (LoadFault.Illegal place) → (place ≡ length wallet.old.history + 1) × (IsTaken wallet.old.history entry.now → ⊥) }
+{
+    open_for(wallet, entry)?;
+    wallet.load(entry)
 }
 
 /// Takes these entries into a wallet, up to the first that it does not take.
 fn load_entries(wallet: &mut Wallet, entries: &[Entry]) -> Result<(), DeskFault>
-    requires { IsSound wallet.old.history }
+    requires sound { IsSound wallet.old.history }
+    requires last { IsAtLast wallet.old }
+    requires fit { AllByRecursion CanBePut entries.now }
     ensures ok { OnOk result (wallet.new.history ≡ wallet.old.history ++ entries.now) }
+    ensures last { OnOk result (IsAtLast wallet.new) }
     ensures sound { OnOk result (IsSound wallet.new.history) }
     ensures illegal { (place : ℕ) → IsErrOf result (DeskFault.Illegal place) → StopsAtEntry wallet.old.history entries.now place }
     ensures refusals { IfErr result (λ e. (e ≡ DeskFault.Memory) ⊎ ((place : ℕ) × (e ≡ DeskFault.Illegal place))) }
 {
     for entry in entries {
-        match wallet.load(entry) {
+        match load_entry(wallet, entry) {
             Ok(()) => {}
             Err(fault) => return Err(DeskFault::from(fault)),
         }
@@ -72,8 +87,8 @@ fn load_entries(wallet: &mut Wallet, entries: &[Entry]) -> Result<(), DeskFault>
     Ok(())
 }
 
-/// Takes the entries of a payload into a wallet: first all its records are read, and then their entries are taken. The
-/// payload's first byte stands at `place` of the disk.
+/// Takes the entries of a payload into a wallet: first all of it is read, and then its entries are taken. The payload's
+/// first byte stands at `place` of the disk.
 pub fn load_payload(
     alloc: Global,
     wallet: &mut Wallet,
@@ -81,10 +96,12 @@ pub fn load_payload(
     place: u64,
 ) -> Result<(), DeskFault>
     requires sound { IsSound wallet.old.history }
+    requires last { IsAtLast wallet.old }
     requires place { place + length payload.now < 2 ^ 64 }
-    ensures ok { OnOk result (IsRound payload.now wallet.old.history wallet.new.history) }
+    ensures ok { OnOk result (IsLoaded payload.now wallet.old.history wallet.new.history) }
+    ensures last { OnOk result (IsAtLast wallet.new) }
     ensures broken { (at : ℕ) → IsErrOf result (DeskFault.BadRecord at) → (within : ℕ) × IsBrokenAt payload.now within × (at ≡ place + within) }
-    ensures illegal { (number : ℕ) → IsErrOf result (DeskFault.Illegal number) → (round : List Entry) × HaveRecords round × (payload.now ≡ records round) × StopsAtEntry wallet.old.history round number }
+    ensures illegal { (number : ℕ) → IsErrOf result (DeskFault.Illegal number) → (round : List Entry) × IsRound payload.now round × StopsAtEntry wallet.old.history round number }
     ensures refusals { IfErr result IsOfPayload }
 {
     let entries = match read_entries(alloc, payload, place) {

@@ -19,11 +19,19 @@ const FRESH: &[u8] = b"OPWJ\x00\x00\x00\x01\x00";
 
 /// The journal after USD with scale 2 was added at noon.
 const ADDED: &[u8] =
-    b"OPWJ\x00\x00\x00\x01\x01\x00\x00\x00\x10\x00\x00\x01\x8d\xf9\xe2\xb2\x00\x02\x00\x03USD\x02\x01\x00";
+    b"OPWJ\x00\x00\x00\x01\x01\x00\x00\x00\x11\x02\x00\x00\x01\x8d\xf9\xe2\xb2\x00\x02\x00\x03USD\x02\x01\x00";
 
 /// And EUR behind it.
 const BOTH: &[u8] =
-    b"OPWJ\x00\x00\x00\x01\x01\x00\x00\x00\x10\x00\x00\x01\x8d\xf9\xe2\xb2\x00\x02\x00\x03USD\x02\x01\x01\x00\x00\x00\x10\x00\x00\x01\x8d\xf9\xe2\xb2\x00\x02\x00\x03EUR\x02\x01\x00";
+    b"OPWJ\x00\x00\x00\x01\x01\x00\x00\x00\x11\x02\x00\x00\x01\x8d\xf9\xe2\xb2\x00\x02\x00\x03USD\x02\x01\x01\x00\x00\x00\x11\x02\x00\x00\x01\x8d\xf9\xe2\xb2\x00\x02\x00\x03EUR\x02\x01\x00";
+
+/// The journal with USD in a round of version 1.
+const OLD: &[u8] =
+    b"OPWJ\x00\x00\x00\x01\x01\x00\x00\x00\x10\x00\x00\x01\x8d\xf9\xe2\xb2\x00\x02\x00\x03USD\x02\x01\x00";
+
+/// And EUR behind it, in a round of version 2.
+const CONTINUED: &[u8] =
+    b"OPWJ\x00\x00\x00\x01\x01\x00\x00\x00\x10\x00\x00\x01\x8d\xf9\xe2\xb2\x00\x02\x00\x03USD\x02\x01\x01\x00\x00\x00\x11\x02\x00\x00\x01\x8d\xf9\xe2\xb2\x00\x02\x00\x03EUR\x02\x01\x00";
 
 /// A disk of these bytes on which the call of this number fails.
 fn disk(alloc: Global, bytes: &[u8], fails: u64) -> Result<MemoryDisk, AllocError> {
@@ -104,32 +112,62 @@ fn assets_are_added_round_by_round(rt: HostRuntime) {
 }
 
 #[test]
+fn a_journal_of_version_1_is_continued_in_place(rt: HostRuntime) {
+    let alloc = rt.alloc();
+    let Some(eur) = AssetCode::read("EUR") else {
+        assert!(rt; false);
+        return;
+    };
+    let Ok(mut disk) = disk(alloc, OLD, 1000) else {
+        return;
+    };
+    let answer = add(alloc, &mut disk, eur);
+    assert!(rt; matches!(&answer, Ok(Ok(made)) if made.count == 2));
+    assert!(rt; OLD.len() == 30 && disk.contents().len() == 52);
+    assert!(rt; disk.contents() == CONTINUED);
+}
+
+#[test]
 fn reading_stops_where_it_first_fails(rt: HostRuntime) {
     let alloc = rt.alloc();
-    let good: [(&[u8], u64); 4] = [
+    let good: [(&[u8], u64); 5] = [
         (b"\x00\x00\x00\x00\x00", 0),
         (b"OPWJ\x00\x00\x00\x01\x07\xaa\xbb\xcc", 0),
         (ADDED, 1),
         (BOTH, 2),
+        (CONTINUED, 2),
     ];
     for (bytes, entries) in good {
         assert!(rt; matches!(count(alloc, bytes), Ok(found) if found == entries));
     }
-    let bad: [(&[u8], DeskFault); 9] = [
+    let bad: [(&[u8], DeskFault); 12] = [
         (b"OPWJ\x00\x00\x00\x02\x00\x00", DeskFault::BadHeader),
         (
             b"OPWJ\x00\x00\x00\x01\x01\x00\x00\x00\x00\x00",
             DeskFault::BadFrame { at: 8 },
         ),
-        // a record of kind 99
+        // an act of kind 99, in version 1 and in version 2
         (
             b"OPWJ\x00\x00\x00\x01\x01\x00\x00\x00\x10\x00\x00\x01\x8d\xf9\xe2\xb2\x00\x63\x00\x03USD\x02\x01\x00",
             DeskFault::BadRecord { at: 21 },
         ),
-        // a record without its last byte
+        (
+            b"OPWJ\x00\x00\x00\x01\x01\x00\x00\x00\x11\x02\x00\x00\x01\x8d\xf9\xe2\xb2\x00\x63\x00\x03USD\x02\x01\x00",
+            DeskFault::BadRecord { at: 22 },
+        ),
+        // a round without its last byte, in both versions
         (
             b"OPWJ\x00\x00\x00\x01\x01\x00\x00\x00\x0f\x00\x00\x01\x8d\xf9\xe2\xb2\x00\x02\x00\x03USD\x02\x00",
             DeskFault::BadRecord { at: 28 },
+        ),
+        (
+            b"OPWJ\x00\x00\x00\x01\x01\x00\x00\x00\x10\x02\x00\x00\x01\x8d\xf9\xe2\xb2\x00\x02\x00\x03USD\x02\x00",
+            DeskFault::BadRecord { at: 29 },
+        ),
+        // a payload of a version that there is not
+        (
+            b"OPWJ\x00\x00\x00\x01\x01\x00\x00\x00\x11\x03\x00\x00\x01\x8d\xf9\xe2\xb2\x00\x02\x00\x03USD\x02\x01\x00",
+            DeskFault::BadRecord { at: 13 },
         ),
         // USD twice, in two rounds and in one
         (
@@ -137,22 +175,22 @@ fn reading_stops_where_it_first_fails(rt: HostRuntime) {
             DeskFault::Illegal { place: 2 },
         ),
         (
-            b"OPWJ\x00\x00\x00\x01\x01\x00\x00\x00\x20\x00\x00\x01\x8d\xf9\xe2\xb2\x00\x02\x00\x03USD\x02\x01\x00\x00\x01\x8d\xf9\xe2\xb2\x00\x02\x00\x03USD\x02\x01\x00",
+            b"OPWJ\x00\x00\x00\x01\x01\x00\x00\x00\x19\x02\x00\x00\x01\x8d\xf9\xe2\xb2\x00\x02\x00\x03USD\x02\x01\x02\x00\x03USD\x02\x01\x00",
             DeskFault::Illegal { place: 2 },
         ),
-        // USD twice in one round, and kind 99 behind it: a payload's records are looked at first
+        // USD twice in one round, and kind 99 behind it: a payload is read before its entries are looked at
         (
-            b"OPWJ\x00\x00\x00\x01\x01\x00\x00\x00\x29\x00\x00\x01\x8d\xf9\xe2\xb2\x00\x02\x00\x03USD\x02\x01\x00\x00\x01\x8d\xf9\xe2\xb2\x00\x02\x00\x03USD\x02\x01\x00\x00\x01\x8d\xf9\xe2\xb2\x00\x63\x00",
-            DeskFault::BadRecord { at: 53 },
+            b"OPWJ\x00\x00\x00\x01\x01\x00\x00\x00\x1a\x02\x00\x00\x01\x8d\xf9\xe2\xb2\x00\x02\x00\x03USD\x02\x01\x02\x00\x03USD\x02\x01\x63\x00",
+            DeskFault::BadRecord { at: 38 },
         ),
         // EUR a millisecond before USD
         (
-            b"OPWJ\x00\x00\x00\x01\x01\x00\x00\x00\x10\x00\x00\x01\x8d\xf9\xe2\xb2\x00\x02\x00\x03USD\x02\x01\x01\x00\x00\x00\x10\x00\x00\x01\x8d\xf9\xe2\xb1\xff\x02\x00\x03EUR\x02\x01\x00",
+            b"OPWJ\x00\x00\x00\x01\x01\x00\x00\x00\x11\x02\x00\x00\x01\x8d\xf9\xe2\xb2\x00\x02\x00\x03USD\x02\x01\x01\x00\x00\x00\x11\x02\x00\x00\x01\x8d\xf9\xe2\xb1\xff\x02\x00\x03EUR\x02\x01\x00",
             DeskFault::Illegal { place: 2 },
         ),
         // 65 pieces
         (
-            b"OPWJ\x00\x00\x00\x01\x01\x00\x00\x00\x10\x00\x00\x01\x8d\xf9\xe2\xb2\x00\x02\x00\x03USD\x02\x41\x00",
+            b"OPWJ\x00\x00\x00\x01\x01\x00\x00\x00\x11\x02\x00\x00\x01\x8d\xf9\xe2\xb2\x00\x02\x00\x03USD\x02\x41\x00",
             DeskFault::Illegal { place: 1 },
         ),
     ];
@@ -166,7 +204,7 @@ fn reading_stops_where_it_first_fails(rt: HostRuntime) {
 #[test]
 fn a_stop_within_a_round_leaves_the_old_history_or_the_whole_round(rt: HostRuntime) {
     let alloc = rt.alloc();
-    let ones = [255; 30];
+    let ones = [255; 31];
     let rows: [(u64, &[u8], u64); 12] = [
         (5, FRESH, 0),
         (5, ADDED, 0),

@@ -1,9 +1,9 @@
-use Rattle.std.proofs.Common.{◌≡◌, ◌≢◌, ◌∙◌, ◌+◌, [], ℕ, List, length, map, ap, sym, subst, arith}
+use Rattle.std.proofs.Common.{◌≡◌, ◌≢◌, ◌∙◌, ◌+◌, [], ℕ, List, length, ap, sym, subst, arith}
 use Rattle.std.proofs.lemmas.Result.{err_from_is_err_and}
-use Rattle.op_journal.specs.Commits.{payload_of}
 use Rattle.op_model.specs.declared.act.Entry.{Entry}
+use Rattle.op_record.specs.Rounds.{IsRound, round_of}
 use Rattle.op_desk.specs.Batches.{DeskValue, history_in}
-use Rattle.op_desk.specs.Spelling.{records, LacksRoom, Stands, with_round, SpellsRounds}
+use Rattle.op_desk.specs.Spelling.{LacksRoom, Stands, with_round, SpellsRounds}
 use Rattle.op_desk.proofs.Closing.{lacks_room, stands_more, image_spells, moments_more, moments_none}
 use Rattle.op_desk.proofs.desk.Desk.close_round.Goals as goal
 
@@ -12,11 +12,12 @@ returns-in_err-commit-clause-any_moment g c told rounds stands =
     let r = c.into_round-round.ensures in
     let tail : c.args.self.now.tail ≡ c.self.inside.journal.tail = ap (λ (v : DeskValue). v.tail) (sym c.self.view_is) in
     let here : Stands rounds c.self.inside.journal.tail (g.D.Disk.seen c.args.disk.now) (g.D.Disk.images c.args.disk.now) = subst (λ (k : ℕ). Stands rounds k (g.D.Disk.seen c.args.disk.now) (g.D.Disk.images c.args.disk.now)) tail stands in
-    let only = c.commit.ensures.any_moment told (map records rounds) here.holds in
-    let body = c.deref.result.now in
-    let payload : payload_of body ≡ records c.args.batch.entries = ap payload_of c.deref.ensures.value ∙ r.payload in
-    let some : c.args.batch.entries ≢ [] = λ none. let no = r.empty.1 none in cc (no, c.if-not-round.false) in
-    moments_more g.D.Disk.moment g.D.Disk.since c.args.disk.now c.commit.new.disk rounds c.args.batch.entries body c.self.inside.journal.tail some here.have r.have payload only
+    let only = c.commit.ensures.any_moment told here.payloads here.holds in
+    let b = c.args.batch in
+    let body = c.body.result.now in
+    let some : b.entries ≢ [] = λ none. let no = r.empty.1 none in cc (no, c.if-not-round.false) in
+    let is = subst (λ (l : List ℕ). IsRound l b.entries) (sym c.body.ensures.payload) (r.round c.if-not-round.false) in
+    moments_more g.D.Disk.moment g.D.Disk.since c.args.disk.now c.commit.new.disk rounds b.entries here.payloads body c.self.inside.journal.tail some here.are is only
 
 pub returns-in_err-commit-clause-no_room : goal.returns-in_err-commit-clause-no_room
 returns-in_err-commit-clause-no_room g c tail need is told =
@@ -25,21 +26,24 @@ returns-in_err-commit-clause-no_room g c tail need is told =
     let stood = c.requires.stands told in
     let here : c.args.self.now.tail ≡ c.self.inside.journal.tail = ap (λ (v : DeskValue). v.tail) (sym c.self.view_is) in
     let disk = c.args.disk.now in
-    let body : length c.deref.result.now ≡ length (records c.args.batch.entries) + 5 = ap length c.deref.ensures.value ∙ c.into_round-round.ensures.length in
-    subst (λ (seen : List ℕ). LacksRoom c.args.batch.begun (history_in c.args.batch) seen) (ap g.D.Disk.seen (sym full.3))
-    (lacks_room stood.0 c.args.batch.begun c.args.batch.entries c.args.self.now.tail (g.D.Disk.seen disk) (g.D.Disk.images disk) stood.2 (g.met.D.Disk.reads_an_image disk told) stood.1
-    (omega (arith, full.0, full.1, full.2, here, body)))
+    let r = c.into_round-round.ensures in
+    let b = c.args.batch in
+    let size : length c.body.result.now ≡ length (round_of b.moment b.entries) + 5 = omega (arith, c.body.ensures.length, ap length r.payload) in
+    subst (λ (seen : List ℕ). LacksRoom b.begun (history_in b) seen) (ap g.D.Disk.seen (sym full.3))
+    (lacks_room stood.0 b.begun b.entries b.moment c.args.self.now.tail (g.D.Disk.seen disk) (g.D.Disk.images disk) stood.2 (g.met.D.Disk.reads_an_image disk told) stood.1
+    (omega (arith, full.0, full.1, full.2, here, size)))
 
 pub returns-clause-any_moment : goal.returns-clause-any_moment
 returns-clause-any_moment g c told rounds stands =
     let r = c.into_round-round.ensures in
     let tail : c.args.self.now.tail ≡ c.self.inside.journal.tail = ap (λ (v : DeskValue). v.tail) (sym c.self.view_is) in
     let here : Stands rounds c.self.inside.journal.tail (g.D.Disk.seen c.args.disk.now) (g.D.Disk.images c.args.disk.now) = subst (λ (k : ℕ). Stands rounds k (g.D.Disk.seen c.args.disk.now) (g.D.Disk.images c.args.disk.now)) tail stands in
-    let only = c.commit.ensures.any_moment told (map records rounds) here.holds in
-    let body = c.deref.result.now in
-    let payload : payload_of body ≡ records c.args.batch.entries = ap payload_of c.deref.ensures.value ∙ r.payload in
-    let some : c.args.batch.entries ≢ [] = λ none. let no = r.empty.1 none in cc (no, c.if-not-round.false) in
-    moments_more g.D.Disk.moment g.D.Disk.since c.args.disk.now c.commit.new.disk rounds c.args.batch.entries body c.self.inside.journal.tail some here.have r.have payload only
+    let only = c.commit.ensures.any_moment told here.payloads here.holds in
+    let b = c.args.batch in
+    let body = c.body.result.now in
+    let some : b.entries ≢ [] = λ none. let no = r.empty.1 none in cc (no, c.if-not-round.false) in
+    let is = subst (λ (l : List ℕ). IsRound l b.entries) (sym c.body.ensures.payload) (r.round c.if-not-round.false) in
+    moments_more g.D.Disk.moment g.D.Disk.since c.args.disk.now c.commit.new.disk rounds b.entries here.payloads body c.self.inside.journal.tail some here.are is only
 
 pub returns-clause-stands : goal.returns-clause-stands
 returns-clause-stands g c told rounds stands =
@@ -47,10 +51,11 @@ returns-clause-stands g c told rounds stands =
     let tail : c.args.self.now.tail ≡ c.self.inside.journal.tail = ap (λ (v : DeskValue). v.tail) (sym c.self.view_is) in
     let here : Stands rounds c.self.inside.journal.tail (g.D.Disk.seen c.args.disk.now) (g.D.Disk.images c.args.disk.now) = subst (λ (k : ℕ). Stands rounds k (g.D.Disk.seen c.args.disk.now) (g.D.Disk.images c.args.disk.now)) tail stands in
     let e = c.in_ok-commit.ensures in
-    let body = c.deref.result.now in
-    let payload : payload_of body ≡ records c.args.batch.entries = ap payload_of c.deref.ensures.value ∙ r.payload in
-    let some : c.args.batch.entries ≢ [] = λ none. let no = r.empty.1 none in cc (no, c.if-not-round.false) in
-    let more = stands_more rounds c.args.batch.entries body c.commit.new.journal.tail (g.D.Disk.seen c.commit.new.disk) (g.D.Disk.images c.commit.new.disk) some here.have r.have payload (e.spells told (map records rounds) here.holds) (e.settled told) in
+    let b = c.args.batch in
+    let body = c.body.result.now in
+    let some : b.entries ≢ [] = λ none. let no = r.empty.1 none in cc (no, c.if-not-round.false) in
+    let is = subst (λ (l : List ℕ). IsRound l b.entries) (sym c.body.ensures.payload) (r.round c.if-not-round.false) in
+    let more = stands_more rounds b.entries here.payloads body c.commit.new.journal.tail (g.D.Disk.seen c.commit.new.disk) (g.D.Disk.images c.commit.new.disk) some here.are is (e.spells told here.payloads here.holds) (e.settled told) in
     subst (λ (k : ℕ). Stands (with_round rounds c.args.batch.entries) k (g.D.Disk.seen c.commit.new.disk) (g.D.Disk.images c.commit.new.disk)) (sym c.take_back-2.ensures.same.0) more
 
 pub returns-clause-images : goal.returns-clause-images

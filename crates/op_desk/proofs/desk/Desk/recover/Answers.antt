@@ -1,18 +1,52 @@
-use Rattle.std.proofs.Common.{◌≡◌, ◌⊎◌, ◌∙◌, ◌+◌, ◌++◌, ◌∷◌, [], ⊎_elim, ℕ, List, length, length-append, map, refl, sym, ap, subst, arith}
-use Rattle.std.specs.Prelude.{Ok, Err, Some}
+use Rattle.std.proofs.Common.{◌≡◌, ◌⊎◌, inl, ◌∙◌, ◌+◌, ◌++◌, ◌∷◌, [], ⊎_elim, ℕ, List, length, length-append, refl, sym, ap, subst, arith}
+use Rattle.std.specs.Prelude.{Ok, Err, Some, nat_le}
 use Rattle.op_disk.proofs.Moments.{then}
 use Rattle.op_journal.specs.Frames.{Holds, SpellsUpTo, IsFrameAt, IsBadFrame}
 use Rattle.op_journal.specs.Recovered.{IsOldOrShort}
 use Rattle.op_model.specs.declared.act.Entry.{Entry}
-use Rattle.op_desk.specs.Payloads.{IsRound}
+use Rattle.op_record.specs.Rounds.{IsRound}
+use Rattle.op_desk.specs.Payloads.{IsLoaded}
 use Rattle.op_desk.specs.Reading.{Fails, IsFree, FailsAtFrame, IsBrokenAt}
-use Rattle.op_desk.specs.Spelling.{records, Stands}
-use Rattle.op_desk.specs.Wallets.{WalletValue}
+use Rattle.op_desk.specs.Spelling.{Stands}
+use Rattle.op_journal.specs.declared.recovery.JournalFault.TheVariants as journal
+use Rattle.op_desk.specs.Faults.{of_journal}
+use Rattle.op_desk.specs.Wallets.{WalletValue, WalletState}
 use Rattle.op_desk.specs.declared.fault.DeskFault.{DeskFault}
 use Rattle.op_desk.proofs.Closing.{image_spells}
-use Rattle.op_desk.proofs.Recovering.{read_more, fails_at_frame, fails_at_record, fails_at_entry, begin_due, next_due, payload_due, spells_all, read_is_old}
+use Rattle.op_desk.proofs.Recovering.{first_calls, read_more, fails_at_frame, fails_at_record, fails_at_entry, begin_due, next_due, payload_due, spells_all, read_is_old}
 use Rattle.op_desk.proofs.Unique.{due_where, free_where, sound_fails_not, one_history}
 use Rattle.op_desk.proofs.desk.Desk.recover.Goals as goal
+
+-- ---- at the start
+
+pub loop-frame-init : goal.loop-frame-init
+loop-frame-init g c =
+    let first = c.args.disk.now in
+    let old = g.D.Disk.seen first in
+    let now = c.begin.new.disk in
+    let e = c.in-Ok.ensures in
+    let empty : c.in-Ok-new.wallet.history ≡ [] = ap (λ (w : WalletState). w.history) c.in-Ok-new.ensures.value in
+    record {
+      at = e.start.0;
+      counted = omega arith;
+      sound = c.in-Ok-new.ensures.sound;
+      last = inl empty;
+      faults = e.cause (λ bad. cc);
+      read = λ told. record {
+        opened = e.opened told;
+        found = e.found told;
+        rounds = [];
+        payloads = [];
+        are = tt;
+        holds = subst (λ (k : ℕ). Holds [] k (g.D.Disk.seen now)) e.start.0 (e.holds told);
+        is = sym empty;
+      };
+      frames = λ told. refl;
+      calls = λ told. first_calls (nat_le (length old) 9) (g.D.Disk.moment first) (g.D.Disk.moment now) (e.calls told);
+      past = λ told. e.past_sync (λ bad. cc);
+      any_moment = e.any_moment;
+      synced = λ told x left. e.synced told (e.past_sync (λ bad. cc)) x left;
+    }
 
 -- ---- a refusal of the opening
 
@@ -54,6 +88,11 @@ returns-in-Err-next_frame-clause-any_moment g c told =
     then g.D.Disk.moment g.D.Disk.since first c.loop-frame.disk c.next_frame.new.disk (IsOldOrShort (g.D.Disk.images first) (g.D.Disk.seen first)) (λ x. x ≡ seen) (inv.any_moment told) (c.next_frame.ensures.any_moment told)
     (λ x is. read_is_old (g.D.Disk.seen first) seen x (g.D.Disk.images first) (inv.read told).opened (g.met.D.Disk.reads_an_image first told) is)
 
+pub returns-in-Err-next_frame-clause-cause : goal.returns-in-Err-next_frame-clause-cause
+returns-in-Err-next_frame-clause-cause g c other =
+    let e = c.in-Err-next_frame in
+    e.ensures.cause (λ is. let same : e.fault ≡ journal.DiskFault = cc in other (ap Err (c.from-in-Err-next_frame.ensures ∙ ap of_journal same))) ∙ c.loop-frame.invariant.faults
+
 -- ---- the end
 
 pub returns-then-not-more-clause-whole : goal.returns-then-not-more-clause-whole
@@ -65,11 +104,11 @@ returns-then-not-more-clause-whole g c =
     let e = c.in-Ok-next_frame.ensures in
     let no = ap Ok c.if-not-more.true in (
       c.loop-frame.wallet.history,
-      (c.loop-frame.wallet.spare, refl),
+      refl,
       inv.sound,
       λ told.
           let read = inv.read told in
-          let payloads = map records read.rounds in
+          let payloads = read.payloads in
           let upto = e.spells no told payloads (subst (λ (k : ℕ). Holds payloads k seen) (sym inv.at) read.holds) in
           let here = subst (λ (k : ℕ). SpellsUpTo payloads k seen) ((e.end no).0 ∙ inv.at) (subst (λ (l : List ℕ). SpellsUpTo payloads c.next_frame.new.self.at l) e.seen upto) in
           spells_all old seen images c.loop-frame.recovery.length c.loop-frame.gate c.loop-frame.wallet.history read here,
@@ -78,10 +117,8 @@ returns-then-not-more-clause-whole g c =
 pub returns-then-not-more-clause-alone : goal.returns-then-not-more-clause-alone
 unfolding returns-then-not-more-clause-whole
 returns-then-not-more-clause-alone g c told history spelled =
-    let whole = returns-then-not-more-clause-whole g c in (
-      c.loop-frame.wallet.spare,
-      ap (λ (h : List Entry). let w : WalletValue = record { history = h; spare = c.loop-frame.wallet.spare } in Some w) (one_history (g.D.Disk.seen c.args.disk.now) whole.0 history (whole.3 told) spelled),
-    )
+    let whole = returns-then-not-more-clause-whole g c in
+    ap (λ (h : List Entry). let w : WalletValue = record { history = h } in Some w) (one_history (g.D.Disk.seen c.args.disk.now) whole.0 history (whole.3 told) spelled)
 
 pub returns-then-not-more-clause-calls : goal.returns-then-not-more-clause-calls
 unfolding returns-then-not-more-clause-whole spells_all
@@ -104,11 +141,11 @@ returns-then-not-more-clause-images g c told x image =
     let e = c.in-Ok-next_frame.ensures in
     let no = ap Ok c.if-not-more.true in
     let read = inv.read told in
-    let payloads = map records read.rounds in
+    let payloads = read.payloads in
     let upto = e.spells no told payloads (subst (λ (k : ℕ). Holds payloads k seen) (sym inv.at) read.holds) in
-    let stands : Stands (read.rounds) c.next_frame.new.self.at (g.D.Disk.seen c.next_frame.new.disk) (g.D.Disk.images c.next_frame.new.disk) = record { have = read.have; holds = upto.holds; settled = e.settled no told } in (
+    let stands : Stands (read.rounds) c.next_frame.new.self.at (g.D.Disk.seen c.next_frame.new.disk) (g.D.Disk.images c.next_frame.new.disk) = record { payloads = payloads; are = read.are; holds = upto.holds; settled = e.settled no told } in (
       read.rounds,
-      (c.loop-frame.wallet.spare, ap (λ (h : List Entry). let w : WalletValue = record { history = h; spare = c.loop-frame.wallet.spare } in Some w) (sym read.is)),
+      ap (λ (h : List Entry). let w : WalletValue = record { history = h } in Some w) (sym read.is),
       image_spells read.rounds c.next_frame.new.self.at (g.D.Disk.seen c.next_frame.new.disk) (g.D.Disk.images c.next_frame.new.disk) x stands image,
     )
 
@@ -131,7 +168,7 @@ returns-in-Err-load_payload-clause-refused g c told =
     fails_at_record old seen images c.loop-frame.recovery.length c.loop-frame.gate at h.0 c.loop-frame.wallet.history payload (inv.read told) inv.sound found (subst (λ (p : List ℕ). IsBrokenAt p h.0) same h.1) h.2)
     (λ number is.
     let h = e.ensures.illegal number (ap Err is) in
-    fails_at_entry old seen images c.loop-frame.recovery.length c.loop-frame.gate number c.loop-frame.wallet.history h.0 payload (inv.read told) inv.sound found h.1 (sym same ∙ h.2) h.3)
+    fails_at_entry old seen images c.loop-frame.recovery.length c.loop-frame.gate number c.loop-frame.wallet.history h.0 payload (inv.read told) inv.sound found (subst (λ (p : List ℕ). IsRound p h.0) same h.1) h.2)
 
 pub returns-in-Err-load_payload-clause-refused_where : goal.returns-in-Err-load_payload-clause-refused_where
 returns-in-Err-load_payload-clause-refused_where g c fault told fails =
@@ -162,11 +199,12 @@ loop-frame-preserved g c =
     let payload = c.next_frame.new.payload.items in
     let yes = ap Ok c.if-not-more.false in
     let next : c.next_frame.new.self.at ≡ c.loop-frame.gate + (5 + c.len.result) = omega (arith, (e.next yes).0, inv.at, c.len.ensures, c.next_frame.new.payload.ok.0) in
-    let round = subst (λ (p : List ℕ). IsRound p c.loop-frame.wallet.history c.load_payload.new.wallet.history) c.deref.ensures.value c.in-Ok-load_payload.ensures.ok in
+    let round = subst (λ (p : List ℕ). IsLoaded p c.loop-frame.wallet.history c.load_payload.new.wallet.history) c.deref.ensures.value c.in-Ok-load_payload.ensures.ok in
     record {
       at = next;
       counted = omega (arith, inv.counted, next);
       sound = round.sound;
+      last = c.in-Ok-load_payload.ensures.last;
       faults = e.cause (λ bad. cc) ∙ inv.faults;
       read = λ told.
           read_more old seen (g.D.Disk.seen c.next_frame.new.disk) (g.D.Disk.images c.loop-frame.disk) (g.D.Disk.images c.next_frame.new.disk) c.loop-frame.recovery.length c.next_frame.new.self.length c.loop-frame.gate (c.loop-frame.gate + (5 + c.len.result))

@@ -1,7 +1,7 @@
 use Rattle.std.proofs.Common.{◌≡◌, ◌+◌, ◌*◌, ◌<◌, ◌≤◌, ℕ, List, length, IsTrue, nat_le, if◌then◌else◌}
 use Rattle.op_disk.specs.Calls.{LeavesOnly}
 use Rattle.op_journal.specs.Recovered.{IsOldOrShort}
-use Rattle.op_desk.specs.Wallets.{IsSound}
+use Rattle.op_desk.specs.Wallets.{IsSound, IsAtLast}
 use Rattle.op_desk.proofs.Recovering.{HasRead}
 use Rattle.op_desk.proofs.desk.Desk.recover.Given as goal
 
@@ -10,6 +10,7 @@ invariant-loop-frame g l = record {
   at : l.recovery.at ≡ l.gate;
   counted : l._frame + 8 ≤ l.gate;
   sound : IsSound l.wallet.history;
+  last : IsAtLast l.wallet;
   faults : g.D.Disk.faults l.disk ≡ g.D.Disk.faults l.fn.disk;
   read : IsTrue g.D.Disk.tells → HasRead (g.D.Disk.seen l.fn.disk) (g.D.Disk.seen l.disk) (g.D.Disk.images l.disk) l.recovery.length l.gate l.wallet.history;
   frames : (told : IsTrue g.D.Disk.tells) → length (read told).rounds ≡ l._frame;
