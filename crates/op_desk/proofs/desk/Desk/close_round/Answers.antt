@@ -16,7 +16,7 @@ returns-in_err-commit-clause-any_moment g c told rounds stands =
     let body = c.deref.result.now in
     let payload : payload_of body ≡ records c.args.batch.entries = ap payload_of c.deref.ensures.value ∙ r.payload in
     let some : c.args.batch.entries ≢ [] = λ none. let no = r.empty.1 none in cc (no, c.if-not-round.false) in
-    moments_more g.D.Disk.moment g.D.Disk.since c.args.disk.now c.commit.new.disk rounds c.args.batch.entries body c.self.inside.journal.tail some here.have r.have payload only
+    moments_more g.D.Disk c.args.disk.now c.commit.new.disk rounds c.args.batch.entries body c.self.inside.journal.tail some here.have r.have payload only
 
 pub returns-in_err-commit-clause-no_room : goal.returns-in_err-commit-clause-no_room
 returns-in_err-commit-clause-no_room g c tail need is told =
@@ -39,7 +39,7 @@ returns-clause-any_moment g c told rounds stands =
     let body = c.deref.result.now in
     let payload : payload_of body ≡ records c.args.batch.entries = ap payload_of c.deref.ensures.value ∙ r.payload in
     let some : c.args.batch.entries ≢ [] = λ none. let no = r.empty.1 none in cc (no, c.if-not-round.false) in
-    moments_more g.D.Disk.moment g.D.Disk.since c.args.disk.now c.commit.new.disk rounds c.args.batch.entries body c.self.inside.journal.tail some here.have r.have payload only
+    moments_more g.D.Disk c.args.disk.now c.commit.new.disk rounds c.args.batch.entries body c.self.inside.journal.tail some here.have r.have payload only
 
 pub returns-clause-stands : goal.returns-clause-stands
 returns-clause-stands g c told rounds stands =
@@ -67,4 +67,4 @@ returns-then-not-round-clause-images g c told rounds stands x image =
 
 pub returns-then-not-round-clause-any_moment : goal.returns-then-not-round-clause-any_moment
 returns-then-not-round-clause-any_moment g c told rounds stands =
-    moments_none g.D.Disk.moment g.D.Disk.since g.D.Disk.seen g.D.Disk.images g.met.D.Disk.only_now c.args.disk.now rounds c.args.batch.entries c.args.self.now.tail stands
+    moments_none g.D.Disk g.met.D.Disk.only_now c.args.disk.now rounds c.args.batch.entries c.args.self.now.tail stands
