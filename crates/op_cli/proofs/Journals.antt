@@ -12,7 +12,8 @@ use Rattle.op_desk.specs.Spelling.{SpellsRounds, SpellsEither, Stands, LacksRoom
 use Rattle.op_desk.specs.Wallets.{WalletValue, IsSound}
 use Rattle.op_desk.proofs.Closing.{image_spells}
 use Rattle.op_desk.proofs.Unique.{one_spelling}
-use Rattle.op_disk.specs.Calls.{LeavesOnly}
+use Rattle.op_disk.specs.Moments.{LeavesOnly}
+use Rattle.op_disk.specs.declared.Disk.{Ghosts}
 use Rattle.op_model.specs.declared.act.Entry.{Entry}
 use Rattle.op_session.specs.Session.{Final, settled, tried_after, unfit_after}
 use Rattle.op_session.specs.Stood.{Stood, opened_with, entries_of, now, with_rounds, round_of, with_entries}
@@ -79,8 +80,8 @@ lacks_room history s round bytes is lacks = subst (λ (h : List Entry). LacksRoo
 
 -- ---- one round
 
-leaves_map : {D : Type 0} (moment : D → ℕ) (since : D → ℕ → List ℕ → Type 0) (old new : D) (P Q : List ℕ → Type 0) → ((c : List ℕ) → P c → Q c) → LeavesOnly moment since old new P → LeavesOnly moment since old new Q
-leaves_map moment since old new P Q f leaves = record {
+leaves_map : {D : Type 0} (g : Ghosts D) (old new : D) (P Q : List ℕ → Type 0) → ((c : List ℕ) → P c → Q c) → LeavesOnly g old new P → LeavesOnly g old new Q
+leaves_map g old new P Q f leaves = record {
   later = leaves.later;
   each = λ c there. f c (leaves.each c there);
   before = λ t c early there. elim (leaves.before t c early there) [ inl past ↦ inl past | inr now ↦ inr (f c now) ];
@@ -99,10 +100,10 @@ settled_round before round = record {
   one = omega (arith, at_most_one round, length-append (round_of round) []);
 }
 
-module _ {D : Type 0} (tells : Bool) (seen : D → List ℕ) (moment : D → ℕ) (since : D → ℕ → List ℕ → Type 0) (images : D → List ℕ → Type 0) (faults : D → ℕ) where
+module _ {D : Type 0} (g : Ghosts D) where
   -- no call on the disk was made, and where a round did not fit, there was no room for it
-  pub leaves_unfit : (only_now : (disk : D) (c : List ℕ) → since disk (moment disk) c → images disk c) (history : List Entry) (before unfit : Stood) (disk : D) → now before ≡ history → IsSound history
-      → IsUnfit tells (unfit_after before unfit) (seen disk) → Leaves tells seen moment since images faults before (unfit_after before unfit) disk disk
+  pub leaves_unfit : (only_now : (disk : D) (c : List ℕ) → g.since disk (g.moment disk) c → g.images disk c) (history : List Entry) (before unfit : Stood) (disk : D) → now before ≡ history → IsSound history
+      → IsUnfit g.tells (unfit_after before unfit) (g.seen disk) → Leaves g before (unfit_after before unfit) disk disk
   leaves_unfit only_now history before unfit disk is sound room = record {
     goes_on = record { more = []; stands = no_more before; rest = []; tried = no_more before; one = omega arith };
     sound = subst IsSound (sym is) sound;
@@ -121,30 +122,30 @@ module _ {D : Type 0} (tells : Bool) (seen : D → List ℕ) (moment : D → ℕ
   }
 
   -- no call on the disk was made, and all fitted
-  pub leaves_same : (only_now : (disk : D) (c : List ℕ) → since disk (moment disk) c → images disk c) (history : List Entry) (disk : D) → IsSound history
-      → FromEach history (λ s. Leaves tells seen moment since images faults s (settled s) disk disk)
+  pub leaves_same : (only_now : (disk : D) (c : List ℕ) → g.since disk (g.moment disk) c → g.images disk c) (history : List Entry) (disk : D) → IsSound history
+      → FromEach history (λ s. Leaves g s (settled s) disk disk)
   leaves_same only_now history disk sound s is = leaves_unfit only_now history s s disk is sound (λ differs told. absurd (differs refl))
 
   -- the same, as a round without entries
-  pub leaves_none : (only_now : (disk : D) (c : List ℕ) → since disk (moment disk) c → images disk c) (history : List Entry) (disk : D) → IsSound history
-      → FromEach history (λ s. Leaves tells seen moment since images faults s (settled (with_entries s [])) disk disk)
+  pub leaves_none : (only_now : (disk : D) (c : List ℕ) → g.since disk (g.moment disk) c → g.images disk c) (history : List Entry) (disk : D) → IsSound history
+      → FromEach history (λ s. Leaves g s (settled (with_entries s [])) disk disk)
   leaves_none only_now history disk sound s is =
-      subst (λ (after : Stood). Leaves tells seen moment since images faults s (settled after) disk disk) (no_more s) (leaves_same only_now history disk sound s is)
+      subst (λ (after : Stood). Leaves g s (settled after) disk disk) (no_more s) (leaves_same only_now history disk sound s is)
 
   -- a disk on which a journal stands has the rounds that each image of it has
-  stands_behind : (reads : (disk : D) → IsTrue tells → images disk (seen disk)) (history : List Entry) (tail : ℕ) (found : List (List Entry)) (s : Stood) (disk : D) → IsTrue tells → AllSpell (found ++ s.rounds) (images disk)
-      → (rounds : List (List Entry)) × (history_of rounds ≡ history) × Stands rounds tail (seen disk) (images disk) → Stands (found ++ s.rounds) tail (seen disk) (images disk)
+  stands_behind : (reads : (disk : D) → IsTrue g.tells → g.images disk (g.seen disk)) (history : List Entry) (tail : ℕ) (found : List (List Entry)) (s : Stood) (disk : D) → IsTrue g.tells → AllSpell (found ++ s.rounds) (g.images disk)
+      → (rounds : List (List Entry)) × (history_of rounds ≡ history) × Stands rounds tail (g.seen disk) (g.images disk) → Stands (found ++ s.rounds) tail (g.seen disk) (g.images disk)
   stands_behind reads history tail found s disk told all (rounds, is, stands) =
       let here = reads disk told in
-      subst (λ (r : List (List Entry)). Stands r tail (seen disk) (images disk))
-      (one_spelling (seen disk) rounds (found ++ s.rounds) (image_spells rounds tail (seen disk) (images disk) (seen disk) stands here) (all (seen disk) here)) stands
+      subst (λ (r : List (List Entry)). Stands r tail (g.seen disk) (g.images disk))
+      (one_spelling (g.seen disk) rounds (found ++ s.rounds) (image_spells rounds tail (g.seen disk) (g.images disk) (g.seen disk) stands here) (all (g.seen disk) here)) stands
 
   -- the round stands
-  pub leaves_round : (reads : (disk : D) → IsTrue tells → images disk (seen disk)) (history round : List Entry) (tail : ℕ) (old new : D) → IsSound (history ++ round)
-      → (IsTrue tells → (rounds : List (List Entry)) × (history_of rounds ≡ history) × Stands rounds tail (seen old) (images old))
-      → (IsTrue tells → (rounds : List (List Entry)) → Stands rounds tail (seen old) (images old) → LeavesOnly moment since old new (SpellsEither rounds round))
-      → (IsTrue tells → (rounds : List (List Entry)) → Stands rounds tail (seen old) (images old) → (c : List ℕ) → images new c → SpellsRounds (with_round rounds round) c)
-      → (round ≢ [] → moment new ≡ moment old + 4) → (round ≡ [] → new ≡ old) → FromEach history (λ s. Leaves tells seen moment since images faults s (settled (with_entries s round)) old new)
+  pub leaves_round : (reads : (disk : D) → IsTrue g.tells → g.images disk (g.seen disk)) (history round : List Entry) (tail : ℕ) (old new : D) → IsSound (history ++ round)
+      → (IsTrue g.tells → (rounds : List (List Entry)) × (history_of rounds ≡ history) × Stands rounds tail (g.seen old) (g.images old))
+      → (IsTrue g.tells → (rounds : List (List Entry)) → Stands rounds tail (g.seen old) (g.images old) → LeavesOnly g old new (SpellsEither rounds round))
+      → (IsTrue g.tells → (rounds : List (List Entry)) → Stands rounds tail (g.seen old) (g.images old) → (c : List ℕ) → g.images new c → SpellsRounds (with_round rounds round) c)
+      → (round ≢ [] → g.moment new ≡ g.moment old + 4) → (round ≡ [] → new ≡ old) → FromEach history (λ s. Leaves g s (settled (with_entries s round)) old new)
   leaves_round reads history round tail old new sound stood any_moment spelled calls empty before is =
       let count = counted round calls empty in
       record {
@@ -155,22 +156,22 @@ module _ {D : Type 0} (tells : Bool) (seen : D → List ℕ) (moment : D → ℕ
         lasts = λ told found all.
             let stands = stands_behind reads history tail found before old told all (stood told) in
             record {
-              leaves = leaves_map moment since old new (SpellsEither (found ++ before.rounds) round) _ (λ c. spells_either found before round c) (any_moment told (found ++ before.rounds) stands);
+              leaves = leaves_map g old new (SpellsEither (found ++ before.rounds) round) _ (λ c. spells_either found before round c) (any_moment told (found ++ before.rounds) stands);
               at_end = λ c image. inl (spells_round found before round c (spelled told (found ++ before.rounds) stands c image));
               least = omega (arith, count, length-append before.rounds (round_of round));
               most = omega (arith, count, length-append before.rounds (round_of round));
             };
       }
     where
-      counted : (round : List Entry) → (round ≢ [] → moment new ≡ moment old + 4) → (round ≡ [] → new ≡ old) → moment new ≡ moment old + 4 * length (round_of round)
-      counted [] calls empty = let same = ap moment (empty refl) in omega (arith, same)
+      counted : (round : List Entry) → (round ≢ [] → g.moment new ≡ g.moment old + 4) → (round ≡ [] → new ≡ old) → g.moment new ≡ g.moment old + 4 * length (round_of round)
+      counted [] calls empty = let same = ap g.moment (empty refl) in omega (arith, same)
       counted (e ∷ es) calls empty = let four = calls (λ none. cc) in omega (arith, four)
 
   -- the round failed on the disk
-  pub leaves_failed : (reads : (disk : D) → IsTrue tells → images disk (seen disk)) (counts_now : (disk : D) (t : ℕ) (c : List ℕ) → t ≤ moment disk → images disk c → since disk t c) (history round : List Entry) (tail : ℕ) (old new : D) → round ≢ [] → IsSound (history ++ round)
-      → (IsTrue tells → (rounds : List (List Entry)) × (history_of rounds ≡ history) × Stands rounds tail (seen old) (images old))
-      → (IsTrue tells → (rounds : List (List Entry)) → Stands rounds tail (seen old) (images old) → LeavesOnly moment since old new (SpellsEither rounds round))
-      → Rose (faults old) (faults new) → moment new ≤ moment old + 4 → FromEach history (λ s. Leaves tells seen moment since images faults s (tried_after s (with_entries s round)) old new)
+  pub leaves_failed : (reads : (disk : D) → IsTrue g.tells → g.images disk (g.seen disk)) (counts_now : (disk : D) (t : ℕ) (c : List ℕ) → t ≤ g.moment disk → g.images disk c → g.since disk t c) (history round : List Entry) (tail : ℕ) (old new : D) → round ≢ [] → IsSound (history ++ round)
+      → (IsTrue g.tells → (rounds : List (List Entry)) × (history_of rounds ≡ history) × Stands rounds tail (g.seen old) (g.images old))
+      → (IsTrue g.tells → (rounds : List (List Entry)) → Stands rounds tail (g.seen old) (g.images old) → LeavesOnly g old new (SpellsEither rounds round))
+      → Rose (g.faults old) (g.faults new) → g.moment new ≤ g.moment old + 4 → FromEach history (λ s. Leaves g s (tried_after s (with_entries s round)) old new)
   leaves_failed reads counts_now history [] tail old new some sound stood any_moment rose most before is = absurd (some refl)
   leaves_failed reads counts_now history (e ∷ es) tail old new some sound stood any_moment rose most before is = record {
     goes_on = record { more = []; stands = no_more before; rest = (e ∷ es) ∷ []; tried = refl; one = omega arith };
@@ -180,8 +181,8 @@ module _ {D : Type 0} (tells : Bool) (seen : D → List ℕ) (moment : D → ℕ
     lasts = λ told found all.
         let leaves = any_moment told (found ++ before.rounds) (stands_behind reads history tail found before old told all (stood told)) in
         record {
-          leaves = leaves_map moment since old new (SpellsEither (found ++ before.rounds) (e ∷ es)) _ (λ c. spells_either found before (e ∷ es) c) leaves;
-          at_end = λ c image. spells_either found before (e ∷ es) c (leaves.each c (counts_now new (moment old) c leaves.later image));
+          leaves = leaves_map g old new (SpellsEither (found ++ before.rounds) (e ∷ es)) _ (λ c. spells_either found before (e ∷ es) c) leaves;
+          at_end = λ c image. spells_either found before (e ∷ es) c (leaves.each c (counts_now new (g.moment old) c leaves.later image));
           least = omega (arith, leaves.later);
           most = omega (arith, most, length-append before.rounds ((e ∷ es) ∷ []));
         };
@@ -198,12 +199,12 @@ whole_is desk history is = ap (λ (w : Option WalletValue). option_map_or (λ w.
 pub wallet_is : (desk : DeskValue) (w : WalletValue) → desk.wallet ≡ Some w → history_at desk ≡ w.history
 wallet_is desk w is = ap (λ (x : Option WalletValue). option_map_or (λ y. y.history) x []) is
 
-module _ {D : Type 0} (tells : Bool) (seen : D → List ℕ) (images : D → List ℕ → Type 0) where
+module _ {D : Type 0} (g : Ghosts D) where
   -- the desk is ready behind a round that stands
   pub ready_behind : (desk : DeskValue) (before round : List Entry) (tail : ℕ) (old new : D) → IsWhole desk.wallet (before ++ round)
-      → (IsTrue tells → (rounds : List (List Entry)) × (history_of rounds ≡ before) × Stands rounds tail (seen old) (images old))
-      → (IsTrue tells → (rounds : List (List Entry)) → Stands rounds tail (seen old) (images old) → Stands (with_round rounds round) desk.tail (seen new) (images new))
-      → IsReady tells desk (seen new) (images new)
+      → (IsTrue g.tells → (rounds : List (List Entry)) × (history_of rounds ≡ before) × Stands rounds tail (g.seen old) (g.images old))
+      → (IsTrue g.tells → (rounds : List (List Entry)) → Stands rounds tail (g.seen old) (g.images old) → Stands (with_round rounds round) desk.tail (g.seen new) (g.images new))
+      → IsReady g desk new
   ready_behind desk before round tail old new whole stood stands = record {
     whole = whole_some desk.wallet (before ++ round) whole;
     stands = λ told.
@@ -213,7 +214,7 @@ module _ {D : Type 0} (tells : Bool) (seen : D → List ℕ) (images : D → Lis
 
 -- ---- one more round
 
-module _ {D : Type 0} (moment : D → ℕ) (since : D → ℕ → List ℕ → Type 0) (images : D → List ℕ → Type 0) (only_now : (disk : D) (c : List ℕ) → since disk (moment disk) c → images disk c) (found : List (List Entry)) where
+module _ {D : Type 0} (g : Ghosts D) (only_now : (disk : D) (c : List ℕ) → g.since disk (g.moment disk) c → g.images disk c) (found : List (List Entry)) where
   -- the rounds that are tried are those before, and then more
   tried_rounds : (before : Stood) (final : Final) (goes : GoesOn before final) → final.tried.rounds ≡ before.rounds ++ (goes.more ++ goes.rest)
   tried_rounds before final goes = ap (λ (h : Stood). h.rounds) goes.tried ∙ (ap (λ (h : Stood). h.rounds ++ goes.rest) goes.stands ∙ append_assoc before.rounds goes.more goes.rest)
@@ -228,7 +229,7 @@ module _ {D : Type 0} (moment : D → ℕ) (since : D → ℕ → List ℕ → T
   left_at_least least before final c enough goes (inr s) =
       spells_all least found final.tried.rounds c (omega (arith, enough, ap length (tried_rounds before final goes), length-append before.rounds (goes.more ++ goes.rest))) s
 
-  pub endures_more : (before : Stood) (final : Final) (opened old new : D) → Endures moment since images found (settled before) opened old → GoesOn before final → Lasts moment since images found before final old new → Endures moment since images found final opened new
+  pub endures_more : (before : Stood) (final : Final) (opened old new : D) → Endures g found (settled before) opened old → GoesOn before final → Lasts g found before final old new → Endures g found final opened new
   endures_more before final opened old new stood goes lasts =
       let s = ap (λ (h : Stood). length h.rounds) goes.stands in
       let sl = length-append before.rounds goes.more in
@@ -240,14 +241,14 @@ module _ {D : Type 0} (moment : D → ℕ) (since : D → ℕ → List ℕ → T
         each = λ k c within there. elim (cases_Bool (nat_le k (length before.rounds))) [
           | inl soon ↦
               let early : k ≤ length before.rounds = leb-true k (length before.rounds) soon in
-              elim (lasts.leaves.before (moment opened + 4 * k) c (omega (arith, early, stood.least)) there) [
+              elim (lasts.leaves.before (g.moment opened + 4 * k) c (omega (arith, early, stood.least)) there) [
                 | inl past ↦ longer_left k before final c goes (stood.each k c early past)
                 | inr now ↦ left_at_least k before final c early goes now
               ]
           | inr after ↦
               let late : length before.rounds < k = leb-false k (length before.rounds) after in
-              let at_end : moment opened + 4 * k ≡ moment new = omega (arith, late, within, stood.least, stood.most, lasts.least, lasts.most, s, sl, t, tl, one, ol) in
-              elim (lasts.at_end c (only_now new c (subst (λ (m : ℕ). since new m c) at_end there))) [
+              let at_end : g.moment opened + 4 * k ≡ g.moment new = omega (arith, late, within, stood.least, stood.most, lasts.least, lasts.most, s, sl, t, tl, one, ol) in
+              elim (lasts.at_end c (only_now new c (subst (λ (m : ℕ). g.since new m c) at_end there))) [
                 | inl stands ↦ subst (λ (h : Stood). SpellsAtLeast k found h.rounds c) (sym goes.tried) (spells_longer k found final.stands.rounds goes.rest c (spells_all k found final.stands.rounds c within stands))
                 | inr tried ↦ spells_all k found final.tried.rounds c (omega (arith, within, t, tl)) tried
               ]
@@ -269,23 +270,23 @@ settled_end : (found : List (List Entry)) (s : Stood) (c : List ℕ) → SpellsF
 settled_end found s c (inl spelled) = spelled
 settled_end found s c (inr spelled) = spelled
 
-module _ {D : Type 0} (tells : Bool) (seen : D → List ℕ) (moment : D → ℕ) (since : D → ℕ → List ℕ → Type 0) (images : D → List ℕ → Type 0) (faults : D → ℕ) (only_now : (disk : D) (c : List ℕ) → since disk (moment disk) c → images disk c) where
+module _ {D : Type 0} (g : Ghosts D) (only_now : (disk : D) (c : List ℕ) → g.since disk (g.moment disk) c → g.images disk c) where
   -- a session goes on by a turn
-  pub kept_more : (first : List Entry) (before : Stood) (final : Final) (opened old new : D) → Kept tells seen moment since images faults first (settled before) opened old → faults old ≡ faults opened
-      → Leaves tells seen moment since images faults before final old new → Kept tells seen moment since images faults first final opened new
+  pub kept_more : (first : List Entry) (before : Stood) (final : Final) (opened old new : D) → Kept g first (settled before) opened old → g.faults old ≡ g.faults opened
+      → Leaves g before final old new → Kept g first final opened new
   kept_more first before final opened old new kept calm leaves = record {
     begins = ap (λ (h : Stood). h.found) leaves.goes_on.stands ∙ kept.begins;
     tried = (leaves.goes_on.rest, leaves.goes_on.tried);
     sound = leaves.sound;
     unfit = leaves.unfit;
-    settled = λ none. leaves.settled (λ rose. none (subst (λ (n : ℕ). Rose n (faults new)) calm rose));
+    settled = λ none. leaves.settled (λ rose. none (subst (λ (n : ℕ). Rose n (g.faults new)) calm rose));
     endures = λ told found all.
         let stood = kept.endures told found all in
-        endures_more moment since images only_now found before final opened old new stood leaves.goes_on (leaves.lasts told found (λ c image. settled_end found before c (stood.at_end c image)));
+        endures_more g only_now found before final opened old new stood leaves.goes_on (leaves.lasts told found (λ c image. settled_end found before c (stood.at_end c image)));
   }
 
   -- a session begins
-  pub kept_first : (first : List Entry) (opened : D) → IsSound first → Kept tells seen moment since images faults first (settled (opened_with first)) opened opened
+  pub kept_first : (first : List Entry) (opened : D) → IsSound first → Kept g first (settled (opened_with first)) opened opened
   kept_first first opened sound = record {
     begins = refl;
     tried = ([], refl);
@@ -293,11 +294,11 @@ module _ {D : Type 0} (tells : Bool) (seen : D → List ℕ) (moment : D → ℕ
     settled = λ none. refl;
     unfit = λ differs told. absurd (differs refl);
     endures = λ told found all.
-        let spelled : (c : List ℕ) → images opened c → SpellsRounds (found ++ []) c = λ c image. subst (λ (rounds : List (List Entry)). SpellsRounds rounds c) (sym (append-nil found)) (all c image) in
+        let spelled : (c : List ℕ) → g.images opened c → SpellsRounds (found ++ []) c = λ c image. subst (λ (rounds : List (List Entry)). SpellsRounds rounds c) (sym (append-nil found)) (all c image) in
         record {
           each = λ k c within there.
               let none : k ≡ 0 = omega (arith, within) in
-              spells_all k found [] c within (spelled c (only_now opened c (subst (λ (m : ℕ). since opened m c) (omega (arith, none)) there)));
+              spells_all k found [] c within (spelled c (only_now opened c (subst (λ (m : ℕ). g.since opened m c) (omega (arith, none)) there)));
           before = λ m c early there. inl there;
           at_end = λ c image. inl (spelled c image);
           least = omega arith;

@@ -4,6 +4,7 @@ use Rattle.std.proofs.lemmas.List.{append-nil}
 use Rattle.std.proofs.lemmas.List.Concat.{flat_map-append}
 use Rattle.op_desk.proofs.Recovering.{short_spells}
 use Rattle.op_desk.specs.Spelling.{Spells, SpellsRounds, history_of, opening_calls}
+use Rattle.op_disk.specs.declared.Disk.{Ghosts}
 use Rattle.op_journal.specs.Recovered.{IsOldOrShort}
 use Rattle.op_model.specs.declared.act.Entry.{Entry}
 use Rattle.op_session.specs.Session.{Final}
@@ -17,24 +18,24 @@ pub old_or_short_spells : (seen c : List ℕ) (rounds : List (List Entry)) → S
 old_or_short_spells seen c rounds s (inl same) = subst (λ (d : List ℕ). SpellsRounds rounds d) (sym same) s
 old_or_short_spells seen c rounds s (inr (short, is)) = short_spells rounds seen c short is s
 
-module _ {D : Type 0} (seen : D → List ℕ) (moment : D → ℕ) (since : D → ℕ → List ℕ → Type 0) (images : D → List ℕ → Type 0) where
+module _ {D : Type 0} (g : Ghosts D) where
   -- an opened disk has the rounds that were found
-  pub opened_spells : (counts_now : (disk : D) (t : ℕ) (c : List ℕ) → t ≤ moment disk → images disk c → since disk t c) (rounds : List (List Entry)) (old opened : D) → SpellsRounds rounds (seen old) → moment old + 1 < moment opened
-      → ((c : List ℕ) → since opened (moment old + 1) c → IsOldOrShort (λ d. d ≡ seen old) (seen old) c) → AllSpell rounds (images opened)
+  pub opened_spells : (counts_now : (disk : D) (t : ℕ) (c : List ℕ) → t ≤ g.moment disk → g.images disk c → g.since disk t c) (rounds : List (List Entry)) (old opened : D) → SpellsRounds rounds (g.seen old) → g.moment old + 1 < g.moment opened
+      → ((c : List ℕ) → g.since opened (g.moment old + 1) c → IsOldOrShort (λ d. d ≡ g.seen old) (g.seen old) c) → AllSpell rounds (g.images opened)
   opened_spells counts_now rounds old opened spelled later synced c image =
-      old_or_short_spells (seen old) c rounds spelled (synced c (counts_now opened (moment old + 1) c (omega (arith, later)) image))
+      old_or_short_spells (g.seen old) c rounds spelled (synced c (counts_now opened (g.moment old + 1) c (omega (arith, later)) image))
 
-  pub every_moment : (final : Final) (old opened new : D) (rounds : List (List Entry)) → SpellsRounds rounds (seen old) → moment opened ≡ moment old + opening_calls (length rounds) (seen old) → moment old + 1 < moment opened
-      → ((c : List ℕ) → since opened (moment old + 1) c → IsOldOrShort (λ d. d ≡ seen old) (seen old) c) → Endures moment since images rounds final opened new → EveryMoment seen moment since final old new
+  pub every_moment : (final : Final) (old opened new : D) (rounds : List (List Entry)) → SpellsRounds rounds (g.seen old) → g.moment opened ≡ g.moment old + opening_calls (length rounds) (g.seen old) → g.moment old + 1 < g.moment opened
+      → ((c : List ℕ) → g.since opened (g.moment old + 1) c → IsOldOrShort (λ d. d ≡ g.seen old) (g.seen old) c) → Endures g rounds final opened new → EveryMoment g final old new
   every_moment final old opened new rounds spelled calls later synced stood = record {
     found = rounds;
     spelled = spelled;
-    opened = moment opened;
+    opened = g.moment opened;
     opening = calls;
-    prefix = λ c there. elim (stood.before (moment old + 1) c (omega (arith, later)) there) [
+    prefix = λ c there. elim (stood.before (g.moment old + 1) c (omega (arith, later)) there) [
       | inl opening ↦
           spells_longer 0 rounds [] final.tried.rounds c
-          (spells_all 0 rounds [] c (omega arith) (subst (λ (r : List (List Entry)). SpellsRounds r c) (sym (append-nil rounds)) (old_or_short_spells (seen old) c rounds spelled (synced c opening))))
+          (spells_all 0 rounds [] c (omega arith) (subst (λ (r : List (List Entry)). SpellsRounds r c) (sym (append-nil rounds)) (old_or_short_spells (g.seen old) c rounds spelled (synced c opening))))
       | inr left ↦ left
     ];
     each = stood.each;

@@ -24,7 +24,7 @@ use Rattle.op_session.specs.Turn.{Turn, Begins, IsTurn, turn_limit}
 use Rattle.op_session.specs.World.{World}
 use Rattle.op_session.specs.declared.end.End.{End}
 use Rattle.op_session.specs.declared.end.End.TheVariants as ends
-use Rattle.op_cli.specs.Turns.{here, Turns, Stops, turn_of, Answers, Replies, ReplyFails, RefusalEnds, Unread}
+use Rattle.op_cli.specs.Turns.{here, Turns, Stops, turn_of, Answers, NotTold, Replies, ReplyFails, RefusalEnds, Unread}
 
 pub asks_none : (told : Option (List ℕ)) → AsksKnown told told []
 asks_none None = tt
@@ -52,6 +52,20 @@ consumes_held held (Some ys) = refl
 -- where nothing is taken, what is held was read
 stays_read : (h h' : Held) (left left' : Option (List ℕ)) → Stays h h' left left' → Consumes (stream h left) left' h'.bytes
 stays_read h h' left left' same = consumes_trans (stream h left) (stream h' left') left' [] h'.bytes same.0 (consumes_held h' left')
+
+-- ---- the clock was asked and a word was drawn, but the reply is not written whole
+
+pub reply_fails : (allows : FeesAllowed) (old : Stood) (w w' : World) (raw : Raw) (end : End) (final : Final) (answer : ℕ) (word : List ℕ) → AsksKnown w.answers w'.answers (answer ∷ []) → DrawsKnown w.words w'.words (word ∷ []) → length word ≡ 16
+    → NotTold allows old w.written w'.written (verdict_of w.accepts raw) answer word (meant_so_far raw) end final → ReplyFails allows old w w' raw end final
+reply_fails allows old w w' raw ends.WordsFault final answer word asks draws sized told = absurd told
+reply_fails allows old w w' raw ends.Done final answer word asks draws sized told = (answer, word, asks, draws, sized, told)
+reply_fails allows old w w' raw ends.ReadFault final answer word asks draws sized told = (answer, word, asks, draws, sized, told)
+reply_fails allows old w w' raw ends.DiskFault final answer word asks draws sized told = (answer, word, asks, draws, sized, told)
+reply_fails allows old w w' raw ends.WriteFault final answer word asks draws sized told = (answer, word, asks, draws, sized, told)
+reply_fails allows old w w' raw ends.JournalFull final answer word asks draws sized told = (answer, word, asks, draws, sized, told)
+reply_fails allows old w w' raw ends.OutOfMemory final answer word asks draws sized told = (answer, word, asks, draws, sized, told)
+reply_fails allows old w w' raw ends.Malformed final answer word asks draws sized told = (answer, word, asks, draws, sized, told)
+reply_fails allows old w w' raw ends.TurnLimit final answer word asks draws sized told = (answer, word, asks, draws, sized, told)
 
 -- ---- a request was taken
 

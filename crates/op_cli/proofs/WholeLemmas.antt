@@ -8,7 +8,8 @@ use Rattle.op_model.specs.Requests.{IsEnded}
 use Rattle.op_model.specs.Round.{FeesAllowed, refusal_reply}
 use Rattle.op_model.specs.declared.act.Entry.{Entry}
 use Rattle.op_model.specs.declared.reply.Refusal.{Refusal}
-use Rattle.op_session.specs.Program.{code_of}
+use Rattle.op_session.specs.declared.status.Status.{Status}
+use Rattle.op_session.specs.declared.status.Status.TheVariants.{Ended}
 use Rattle.op_session.specs.Session.{Final, Session, begun, texts, replies, IsComplete, IsRefusal}
 use Rattle.op_session.specs.Stood.{Stood, now}
 use Rattle.op_session.specs.Turn.{Standing, Turn, Run}
@@ -123,8 +124,8 @@ module _ (allows : FeesAllowed) (before after : World) (first : List Entry) (fin
   complete ends.WordsFault s bytes old l w = tt
 
 -- an end that is no fault, no want of memory or of room, and not the limit
-pub ends_well : (end : End) → (end ≡ ends.ReadFault → ⊥) → (end ≡ ends.WriteFault → ⊥) → (end ≡ ends.DiskFault → ⊥) → (end ≡ ends.WordsFault → ⊥) → (end ≡ ends.JournalFull → ⊥) → (end ≡ ends.OutOfMemory → ⊥) → (end ≡ ends.TurnLimit → ⊥)
-    → (code_of end ≡ 0) ⊎ (code_of end ≡ 10)
+pub ends_well : (end : End) → (Ended end ≡ Ended ends.ReadFault → ⊥) → (Ended end ≡ Ended ends.WriteFault → ⊥) → (Ended end ≡ Ended ends.DiskFault → ⊥) → (Ended end ≡ Ended ends.WordsFault → ⊥) → (Ended end ≡ Ended ends.JournalFull → ⊥) → (Ended end ≡ Ended ends.OutOfMemory → ⊥) → (Ended end ≡ Ended ends.TurnLimit → ⊥)
+    → (Ended end ≡ Ended ends.Done) ⊎ (Ended end ≡ Ended ends.Malformed)
 ends_well ends.Done r w d x f m t = inl refl
 ends_well ends.Malformed r w d x f m t = inr refl
 ends_well ends.ReadFault r w d x f m t = absurd (r refl)

@@ -1,34 +1,36 @@
 -- What holds of calls in a row.
-use Rattle.std.specs.Prelude.{◌≡◌, ◌⊎◌, ℕ, Bool, List, IsTrue}
+use Rattle.std.specs.Prelude.{◌≡◌, ◌⊎◌, List, IsTrue}
 use Rattle.op_causes.specs.Causes.{Rose}
 use Rattle.op_desk.specs.Spelling.{SpellsSound}
+use Rattle.op_disk.specs.declared.Disk.{Ghosts}
 use Rattle.op_model.specs.Round.{FeesAllowed}
 use Rattle.op_model.specs.declared.act.Entry.{Entry}
 use Rattle.op_session.specs.Stood.{now}
 use Rattle.op_session.specs.World.{World}
+use Rattle.op_session.specs.declared.status.Status.{Status}
 use Rattle.op_cli.specs.Applies.{RunsOn}
 
 -- The calls may have fee rules of different terms.
-module _ {D : Type 0} (allows allows' : FeesAllowed) (tells : Bool) (seen : D → List ℕ) (moment : D → ℕ) (since : D → ℕ → List ℕ → Type 0) (images : D → List ℕ → Type 0) (faults : D → ℕ) where
+module _ {D : Type 0} (allows allows' : FeesAllowed) (g : Ghosts D) where
   -- Where a call opened the journal and its disk did not fail, the next call that opens it begins with the history that stood
   -- at the end of the first, also where a crash came between the two.
   abbrev pub CallsAreOneHistory : Type 0
   CallsAreOneHistory =
-      (old new next last : D) (before after before' after' : World) (code code' : ℕ)
-      → (first : RunsOn allows tells seen moment since images faults old new before after code)
-      → (second : RunsOn allows' tells seen moment since images faults next last before' after' code')
-      → IsTrue tells → images new (seen next) → ¬ Rose (faults old) (faults new) → second.first ≡ now first.final.stands
+      (old new next last : D) (before after before' after' : World) (status status' : Status)
+      → (first : RunsOn allows g old new before after status)
+      → (second : RunsOn allows' g next last before' after' status')
+      → IsTrue g.tells → g.images new (g.seen next) → ¬ Rose (g.faults old) (g.faults new) → second.first ≡ now first.final.stands
 
   -- where its disk may have failed, perhaps with the round that was tried
   abbrev pub CallsGoOn : Type 0
   CallsGoOn =
-      (old new next last : D) (before after before' after' : World) (code code' : ℕ)
-      → (first : RunsOn allows tells seen moment since images faults old new before after code)
-      → (second : RunsOn allows' tells seen moment since images faults next last before' after' code')
-      → IsTrue tells → images new (seen next) → (second.first ≡ now first.final.stands) ⊎ (second.first ≡ now first.final.tried)
+      (old new next last : D) (before after before' after' : World) (status status' : Status)
+      → (first : RunsOn allows g old new before after status)
+      → (second : RunsOn allows' g next last before' after' status')
+      → IsTrue g.tells → g.images new (g.seen next) → (second.first ≡ now first.final.stands) ⊎ (second.first ≡ now first.final.tried)
 
   -- what a call leaves is a legal history of acts that are built, so the next call does not find it illegal
   abbrev pub CallsLeaveLegal : Type 0
   CallsLeaveLegal =
-      (old new next : D) (before after : World) (code : ℕ) → (first : RunsOn allows tells seen moment since images faults old new before after code)
-      → IsTrue tells → images new (seen next) → (history : List Entry) × SpellsSound history (seen next)
+      (old new next : D) (before after : World) (status : Status) → (first : RunsOn allows g old new before after status)
+      → IsTrue g.tells → g.images new (g.seen next) → (history : List Entry) × SpellsSound history (g.seen next)

@@ -1,4 +1,5 @@
 pub mod Applies
+pub mod Causes
 pub mod Kept
 pub mod Laws
 pub mod Told

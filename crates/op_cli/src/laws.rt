@@ -8,7 +8,7 @@ use op_disk::Disk;
 /// a crash came between the two. Only where the disk failed in the first, the round that was tried may stand too. And what
 /// the first leaves is legal, so the second does not end for an illegal journal. Each may have its own fee rule.
 pub fn calls_are_one_history<D: Disk, F: FeeTerms, G: FeeTerms>()
-    ensures settled { CallsAreOneHistory F.allows G.allows D.tells D.seen D.moment D.since D.images D.faults }
-    ensures tried { CallsGoOn F.allows G.allows D.tells D.seen D.moment D.since D.images D.faults }
-    ensures legal { CallsLeaveLegal F.allows G.allows D.tells D.seen D.moment D.since D.images D.faults }
+    ensures settled { CallsAreOneHistory F.allows G.allows D.Disk }
+    ensures tried { CallsGoOn F.allows G.allows D.Disk }
+    ensures legal { CallsLeaveLegal F.allows G.allows D.Disk }
 {}

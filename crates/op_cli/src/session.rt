@@ -1,8 +1,8 @@
 //! Sessions: requests from a source, replies to a sink, and what was answered in a journal.
-ghost use Rattle.std.specs.Prelude.{◌≡◌, ◌≢◌, ◌⊎◌, ◌<◌, ◌≤◌, ◌+◌, ◌^◌, ◌++◌, ℕ, List, length, false, IsTrue, IsSome, IfSome, Err, OnOk, OnErr, IfErr};
+ghost use Rattle.std.specs.Prelude.{◌≡◌, ◌≢◌, ◌⊎◌, ◌<◌, ◌≤◌, ◌+◌, ◌^◌, List, false, IsTrue, IsSome, IfSome, OnOk, IfErr, IsErrOf};
 ghost use Rattle.std.specs.Io.KnownBytes.{Appends};
 ghost use Rattle.std.specs.Str.{IsUtf8};
-ghost use Rattle.op_causes.specs.Causes.{Rose};
+ghost use Rattle.op_causes.specs.Causes.{HasCause, NamesFault};
 ghost use Rattle.op_desk.specs.Batches.{history_in};
 ghost use Rattle.op_desk.specs.Built.{is_built_refusal, is_built_reply, is_built_task};
 ghost use Rattle.op_desk.specs.Spelling.{Stands, history_of};
@@ -17,10 +17,11 @@ ghost use Rattle.op_model.specs.Verdicts.{verdict_of};
 ghost use Rattle.op_model.specs.declared.request.Task.TheVariants.{Ask};
 ghost use Rattle.op_session.specs.Session.{Final, Session, begun, settled};
 ghost use Rattle.op_session.specs.Stood.{now, opened_with, with_entries};
-ghost use Rattle.op_session.specs.declared.end.End.TheVariants.{ReadFault, WriteFault, DiskFault, WordsFault};
+ghost use Rattle.op_session.specs.declared.end.End.TheVariants.{WriteFault};
 ghost use Rattle.op_ports.specs.Sink.{AppendsFront};
-ghost use Rattle.op_cli.specs.Kept.{history_at, FromEach, IsReady, Leaves, Kept};
-ghost use Rattle.op_cli.specs.Told.{world_of};
+ghost use Rattle.op_cli.specs.Causes.{HasCauses, HasRoundCauses};
+ghost use Rattle.op_cli.specs.Kept.{history_at, Adds, EndsBy, FromEach, IsReady, Leaves, Kept};
+ghost use Rattle.op_cli.specs.Told.{world_of, LeavesOthers};
 ghost use Rattle.op_cli.specs.Turns.{here, Turns, Stops, IsFit, Handled, NotHandled, NotStood, Told, NotTold, NotWritten, Replies, ReplyFails, RefusalEnds, Unread};
 
 use crate::built::prepare_built;
@@ -42,10 +43,10 @@ const TURN_LIMIT: u64 = 1_000_000_000;
 
 /// Writes a reply after which the session ends so, unless the write fails.
 fn write_last<K: Sink>(sink: &mut K, text: &[u8], end: End) -> End
+    requires { end ≢ WriteFault }
     ensures end { ((result ≡ end) × Appends (K.written sink.old) (K.written sink.new) text.now)
         ⊎ ((result ≡ WriteFault) × AppendsFront (K.written sink.old) (K.written sink.new) text.now) }
-    ensures cause { (result ≡ WriteFault) → (end ≢ WriteFault) → Rose (K.faults sink.old) (K.faults sink.new) }
-    ensures kept { result ≢ WriteFault → K.faults sink.new ≡ K.faults sink.old }
+    ensures cause { NamesFault (K.faults sink.old) (K.faults sink.new) (result ≡ WriteFault) }
 {
     match write_all(sink, text) {
         Ok(()) => end,
@@ -79,8 +80,7 @@ fn refuse<K: Sink>(alloc: Global, refusal: Refusal, desk: &Desk, sink: &mut K) -
     requires whole { IsSome desk.now.wallet }
     requires built { IsTrue (is_built_refusal refusal) }
     ensures end { RefusalEnds (refusal_reply (history_at desk.now) refusal) (K.written sink.old) (K.written sink.new) result }
-    ensures cause { result ≡ WriteFault → Rose (K.faults sink.old) (K.faults sink.new) }
-    ensures kept { result ≢ WriteFault → K.faults sink.new ≡ K.faults sink.old }
+    ensures cause { NamesFault (K.faults sink.old) (K.faults sink.new) (result ≡ WriteFault) }
 {
     match refusal_text(alloc, desk, refusal) {
         Some(text) => write_last(sink, &text, End::Malformed),
@@ -92,8 +92,7 @@ fn refuse<K: Sink>(alloc: Global, refusal: Refusal, desk: &Desk, sink: &mut K) -
 fn write_reply<K: Sink>(sink: &mut K, text: &[u8]) -> Result<(), End>
     ensures ok { OnOk result (Appends (K.written sink.old) (K.written sink.new) text.now) }
     ensures err { IfErr result (λ end. (end ≡ WriteFault) × AppendsFront (K.written sink.old) (K.written sink.new) text.now) }
-    ensures cause { OnErr result (Rose (K.faults sink.old) (K.faults sink.new)) }
-    ensures kept { OnOk result (K.faults sink.new ≡ K.faults sink.old) }
+    ensures cause { HasCause (K.faults sink.old) (K.faults sink.new) result }
 {
     match write_all(sink, text) {
         Ok(()) => Ok(()),
@@ -108,12 +107,18 @@ struct Round {
     text: Vec<u8>,
 }
 
+/// What a turn asked of the outside before it answers: what the clock gave, and the word that was drawn.
+#[derive(Drop)]
+struct Asked {
+    answer: u64,
+    word: Word,
+}
+
 /// Answers a request in a round, and prints the reply. The round is not committed yet. `None` where memory was wanting.
 fn begin_round<F: FeeRule>(
     alloc: Global,
     task: &Task,
-    answer: u64,
-    word: &Word,
+    asked: &Asked,
     hook: &PriceHook<F>,
     desk: &mut Desk,
 ) -> Option<Round>
@@ -122,15 +127,18 @@ fn begin_round<F: FeeRule>(
     requires proper { IsTrue (is_proper (history_at desk.old) task.now) }
 
     ensures begun { IfSome result (λ round. round.batch.begun ≡ history_at desk.old) }
-    ensures answered { IfSome result (λ round. (reply : _) × Handles F.FeeTerms.allows (history_at desk.old) (moment_of_turn (history_at desk.old) answer) 0 task.now word.now reply (history_in round.batch)
+    ensures answered { IfSome result (λ round. (reply : _) × Handles F.FeeTerms.allows (history_at desk.old) (moment_of_turn (history_at desk.old) asked.now.answer) 0 task.now asked.now.word reply (history_in round.batch)
         × (round.text.items ≡ printed reply)) }
     ensures running { IfSome result (λ round. (desk.new.closed ≡ false) × (desk.new.tail ≡ desk.old.tail)) }
 {
-    let t = desk.wallet().last().later(Moment::at_most_last(answer));
+    let t = desk
+        .wallet()
+        .last()
+        .later(Moment::at_most_last(asked.answer));
     let Ok(mut batch) = desk.begin(alloc, t, 1) else {
         return None;
     };
-    let reply = batch.act(word, hook, 0, task);
+    let reply = batch.act(&asked.word, hook, 0, task);
     let text = text_of(alloc, reply)?;
     Some(Round { batch, text })
 }
@@ -147,15 +155,11 @@ fn end_round<D: Disk, K: Sink>(
     requires sound { IsSound round.batch.begun }
 
     ensures whole { OnOk result (history_at desk.new ≡ history_in round.batch) }
-    ensures ready { OnOk result (IsReady D.tells desk.new (D.seen disk.new) (D.images disk.new)) }
+    ensures ready { OnOk result (IsReady D.Disk desk.new disk.new) }
     ensures told { OnOk result (Appends (K.written sink.old) (K.written sink.new) round.text.items) }
-    ensures stands { OnOk result (FromEach round.batch.begun (λ stood. Leaves D.tells D.seen D.moment D.since D.images D.faults stood (settled (with_entries stood round.batch.entries)) disk.old disk.new)) }
-    ensures err { IfErr result (λ end. FromEach round.batch.begun (λ stood. (final : Final) × NotStood stood round.batch.entries (K.written sink.old) (K.written sink.new) round.text.items end final
-        × Leaves D.tells D.seen D.moment D.since D.images D.faults stood final disk.old disk.new)) }
-    ensures disk_cause { result ≡ Err DiskFault → Rose (D.faults disk.old) (D.faults disk.new) }
-    ensures disk_kept { result ≢ Err DiskFault → result ≢ Err WriteFault → D.faults disk.new ≡ D.faults disk.old }
-    ensures write_cause { result ≡ Err WriteFault → Rose (K.faults sink.old) (K.faults sink.new) }
-    ensures write_kept { result ≢ Err WriteFault → K.faults sink.new ≡ K.faults sink.old }
+    ensures stands { OnOk result (FromEach round.batch.begun (λ stood. Leaves D.Disk stood (settled (with_entries stood round.batch.entries)) disk.old disk.new)) }
+    ensures err { IfErr result (λ end. EndsBy D.Disk round.batch.begun disk.old disk.new (λ stood final. NotStood stood round.batch.entries (K.written sink.old) (K.written sink.new) round.text.items end final)) }
+    ensures causes { HasRoundCauses (D.faults disk.old) (D.faults disk.new) (K.faults sink.old) (K.faults sink.new) (IsErrOf result) }
 {
     let Round { batch, text } = round;
     match desk.close_round(disk, batch) {
@@ -168,69 +172,55 @@ fn end_round<D: Disk, K: Sink>(
 }
 
 /// Runs a round of this one request, and writes its reply once its act stands.
-fn run_round<D: Disk, K: Sink, F: FeeRule>(
+fn run_round<D: Disk, S: Source, K: Sink, C: Clock, W: Words, V: Verifier, F: FeeRule>(
     alloc: Global,
     task: &Task,
-    answer: u64,
-    word: &Word,
-    hook: &PriceHook<F>,
+    asked: &Asked,
     desk: &mut Desk,
-    disk: &mut D,
-    sink: &mut K,
+    outside: &mut Outside<D, S, K, C, W, V, F>,
 ) -> Result<(), End>
-    requires ready { IsReady D.tells desk.old (D.seen disk.old) (D.images disk.old) }
+    requires ready { IsReady D.Disk desk.old outside.old.disk }
     requires sound { IsSound (history_at desk.old) }
     requires built { IsTrue (is_built_task task.now) }
     requires proper { IsTrue (is_proper (history_at desk.old) task.now) }
 
-    ensures ok { OnOk result (FromEach (history_at desk.old) (λ stood. (entries : List Entry) × (history_at desk.new ≡ now stood ++ entries) × Handled F.FeeTerms.allows (now stood) entries (K.written sink.old) (K.written sink.new) answer word.now task.now
-        × Leaves D.tells D.seen D.moment D.since D.images D.faults stood (settled (with_entries stood entries)) disk.old disk.new)) }
-    ensures ready { OnOk result (IsReady D.tells desk.new (D.seen disk.new) (D.images disk.new)) }
-    ensures err { IfErr result (λ end. FromEach (history_at desk.old) (λ stood. (final : Final) × NotHandled F.FeeTerms.allows stood (K.written sink.old) (K.written sink.new) answer word.now task.now end final
-        × Leaves D.tells D.seen D.moment D.since D.images D.faults stood final disk.old disk.new)) }
-    ensures disk_cause { result ≡ Err DiskFault → Rose (D.faults disk.old) (D.faults disk.new) }
-    ensures disk_kept { result ≢ Err DiskFault → result ≢ Err WriteFault → D.faults disk.new ≡ D.faults disk.old }
-    ensures write_cause { result ≡ Err WriteFault → Rose (K.faults sink.old) (K.faults sink.new) }
-    ensures write_kept { result ≢ Err WriteFault → K.faults sink.new ≡ K.faults sink.old }
+    ensures ok { OnOk result (Adds D.Disk (history_at desk.old) (history_at desk.new) outside.old.disk outside.new.disk (λ stood entries. Handled F.FeeTerms.allows (now stood) entries (K.written outside.old.sink) (K.written outside.new.sink) asked.now.answer asked.now.word task.now)) }
+    ensures ready { OnOk result (IsReady D.Disk desk.new outside.new.disk) }
+    ensures err { IfErr result (λ end. EndsBy D.Disk (history_at desk.old) outside.old.disk outside.new.disk (λ stood final. NotHandled F.FeeTerms.allows stood (K.written outside.old.sink) (K.written outside.new.sink) asked.now.answer asked.now.word task.now end final)) }
+    ensures others { LeavesOthers outside.old outside.new }
+    ensures causes { HasRoundCauses (D.faults outside.old.disk) (D.faults outside.new.disk) (K.faults outside.old.sink) (K.faults outside.new.sink) (IsErrOf result) }
 {
-    match begin_round(alloc, task, answer, word, hook, desk) {
-        Some(round) => end_round(round, desk, disk, sink),
+    match begin_round(alloc, task, asked, &outside.hook, desk) {
+        Some(round) => end_round(round, desk, &mut outside.disk, &mut outside.sink),
         None => Err(End::OutOfMemory),
     }
 }
 
 /// Runs a round of a request that is understood.
-fn run_request<D: Disk, K: Sink, F: FeeRule>(
+fn run_request<D: Disk, S: Source, K: Sink, C: Clock, W: Words, V: Verifier, F: FeeRule>(
     alloc: Global,
     request: Request,
     verdict: Verdict,
-    answer: u64,
-    word: &Word,
-    hook: &PriceHook<F>,
+    asked: &Asked,
     desk: &mut Desk,
-    disk: &mut D,
-    sink: &mut K,
+    outside: &mut Outside<D, S, K, C, W, V, F>,
 ) -> Result<(), End>
-    requires ready { IsReady D.tells desk.old (D.seen disk.old) (D.images disk.old) }
+    requires ready { IsReady D.Disk desk.old outside.old.disk }
     requires sound { IsSound (history_at desk.old) }
     requires fit { IsFit request }
 
-    ensures ok { OnOk result (FromEach (history_at desk.old) (λ stood. (entries : List Entry) × (history_at desk.new ≡ now stood ++ entries) × Handled F.FeeTerms.allows (now stood) entries (K.written sink.old) (K.written sink.new) answer word.now (Ask request verdict)
-        × Leaves D.tells D.seen D.moment D.since D.images D.faults stood (settled (with_entries stood entries)) disk.old disk.new)) }
-    ensures ready { OnOk result (IsReady D.tells desk.new (D.seen disk.new) (D.images disk.new)) }
-    ensures err { IfErr result (λ end. FromEach (history_at desk.old) (λ stood. (final : Final) × NotHandled F.FeeTerms.allows stood (K.written sink.old) (K.written sink.new) answer word.now (Ask request verdict) end final
-        × Leaves D.tells D.seen D.moment D.since D.images D.faults stood final disk.old disk.new)) }
-    ensures disk_cause { result ≡ Err DiskFault → Rose (D.faults disk.old) (D.faults disk.new) }
-    ensures disk_kept { result ≢ Err DiskFault → result ≢ Err WriteFault → D.faults disk.new ≡ D.faults disk.old }
-    ensures write_cause { result ≡ Err WriteFault → Rose (K.faults sink.old) (K.faults sink.new) }
-    ensures write_kept { result ≢ Err WriteFault → K.faults sink.new ≡ K.faults sink.old }
+    ensures ok { OnOk result (Adds D.Disk (history_at desk.old) (history_at desk.new) outside.old.disk outside.new.disk (λ stood entries. Handled F.FeeTerms.allows (now stood) entries (K.written outside.old.sink) (K.written outside.new.sink) asked.now.answer asked.now.word (Ask request verdict))) }
+    ensures ready { OnOk result (IsReady D.Disk desk.new outside.new.disk) }
+    ensures err { IfErr result (λ end. EndsBy D.Disk (history_at desk.old) outside.old.disk outside.new.disk (λ stood final. NotHandled F.FeeTerms.allows stood (K.written outside.old.sink) (K.written outside.new.sink) asked.now.answer asked.now.word (Ask request verdict) end final)) }
+    ensures others { LeavesOthers outside.old outside.new }
+    ensures causes { HasRoundCauses (D.faults outside.old.disk) (D.faults outside.new.disk) (K.faults outside.old.sink) (K.faults outside.new.sink) (IsErrOf result) }
 {
     let task = Task::Ask { request, verdict };
-    run_round(alloc, &task, answer, word, hook, desk, disk, sink)
+    run_round(alloc, &task, asked, desk, outside)
 }
 
 /// Writes the refusal of a request that means none.
-fn refuse_one<K: Sink>(
+fn refuse_request<K: Sink>(
     alloc: Global,
     refusal: Refusal,
     desk: &Desk,
@@ -240,8 +230,7 @@ fn refuse_one<K: Sink>(
     requires built { IsTrue (is_built_refusal refusal) }
     ensures ok { OnOk result (Appends (K.written sink.old) (K.written sink.new) (printed (refusal_reply (history_at desk.now) refusal))) }
     ensures err { IfErr result (NotWritten (refusal_reply (history_at desk.now) refusal) (K.written sink.old) (K.written sink.new)) }
-    ensures cause { result ≡ Err WriteFault → Rose (K.faults sink.old) (K.faults sink.new) }
-    ensures kept { result ≢ Err WriteFault → K.faults sink.new ≡ K.faults sink.old }
+    ensures cause { NamesFault (K.faults sink.old) (K.faults sink.new) (IsErrOf result WriteFault) }
 {
     match refusal_text(alloc, desk, refusal) {
         Some(text) => write_reply(sink, &text),
@@ -250,39 +239,27 @@ fn refuse_one<K: Sink>(
 }
 
 /// Answers a request, and writes its reply.
-fn answer_one<D: Disk, K: Sink, V: Verifier, F: FeeRule>(
+fn answer_request<D: Disk, S: Source, K: Sink, C: Clock, W: Words, V: Verifier, F: FeeRule>(
     alloc: Global,
     table: &RouteTable,
     raw: &RawRequest,
-    verifier: &V,
-    answer: u64,
-    word: &Word,
-    hook: &PriceHook<F>,
+    asked: &Asked,
     desk: &mut Desk,
-    disk: &mut D,
-    sink: &mut K,
+    outside: &mut Outside<D, S, K, C, W, V, F>,
 ) -> Result<(), End>
-    requires ready { IsReady D.tells desk.old (D.seen disk.old) (D.images disk.old) }
+    requires ready { IsReady D.Disk desk.old outside.old.disk }
     requires sound { IsSound (history_at desk.old) }
 
-    ensures ok { OnOk result (FromEach (history_at desk.old) (λ stood. (entries : List Entry) × (history_at desk.new ≡ now stood ++ entries) × Told F.FeeTerms.allows (now stood) entries (K.written sink.old) (K.written sink.new) (verdict_of (V.accepts verifier.now) raw.now) answer word.now (meant_so_far raw.now)
-        × Leaves D.tells D.seen D.moment D.since D.images D.faults stood (settled (with_entries stood entries)) disk.old disk.new)) }
-    ensures ready { OnOk result (IsReady D.tells desk.new (D.seen disk.new) (D.images disk.new)) }
-    ensures err { IfErr result (λ end. FromEach (history_at desk.old) (λ stood. (final : Final) × NotTold F.FeeTerms.allows stood (K.written sink.old) (K.written sink.new) (verdict_of (V.accepts verifier.now) raw.now) answer word.now (meant_so_far raw.now) end final
-        × Leaves D.tells D.seen D.moment D.since D.images D.faults stood final disk.old disk.new)) }
-    ensures disk_cause { result ≡ Err DiskFault → Rose (D.faults disk.old) (D.faults disk.new) }
-    ensures disk_kept { result ≢ Err DiskFault → result ≢ Err WriteFault → D.faults disk.new ≡ D.faults disk.old }
-    ensures write_cause { result ≡ Err WriteFault → Rose (K.faults sink.old) (K.faults sink.new) }
-    ensures write_kept { result ≢ Err WriteFault → K.faults sink.new ≡ K.faults sink.old }
+    ensures ok { OnOk result (Adds D.Disk (history_at desk.old) (history_at desk.new) outside.old.disk outside.new.disk (λ stood entries. Told F.FeeTerms.allows (now stood) entries (K.written outside.old.sink) (K.written outside.new.sink) (verdict_of (V.accepts outside.old.verifier) raw.now) asked.now.answer asked.now.word (meant_so_far raw.now))) }
+    ensures ready { OnOk result (IsReady D.Disk desk.new outside.new.disk) }
+    ensures err { IfErr result (λ end. EndsBy D.Disk (history_at desk.old) outside.old.disk outside.new.disk (λ stood final. NotTold F.FeeTerms.allows stood (K.written outside.old.sink) (K.written outside.new.sink) (verdict_of (V.accepts outside.old.verifier) raw.now) asked.now.answer asked.now.word (meant_so_far raw.now) end final)) }
+    ensures others { LeavesOthers outside.old outside.new }
+    ensures causes { HasRoundCauses (D.faults outside.old.disk) (D.faults outside.new.disk) (K.faults outside.old.sink) (K.faults outside.new.sink) (IsErrOf result) }
 {
-    match prepare_built(alloc, table, raw, verifier) {
-        Ok((request, verdict)) => {
-            run_request(
-                alloc, request, verdict, answer, word, hook, desk, disk, sink,
-            )
-        }
-        Err(ApiFault::Refused(refusal)) => refuse_one(alloc, refusal, desk, sink),
-        Err(ApiFault::Memory) => refuse_one(alloc, Refusal::Memory, desk, sink),
+    match prepare_built(alloc, table, raw, &outside.verifier) {
+        Ok((request, verdict)) => run_request(alloc, request, verdict, asked, desk, outside),
+        Err(ApiFault::Refused(refusal)) => refuse_request(alloc, refusal, desk, &mut outside.sink),
+        Err(ApiFault::Memory) => refuse_request(alloc, Refusal::Memory, desk, &mut outside.sink),
     }
 }
 
@@ -291,8 +268,7 @@ fn answer_one<D: Disk, K: Sink, V: Verifier, F: FeeRule>(
 fn unread<K: Sink>(alloc: Global, fault: HttpFault, desk: &Desk, sink: &mut K) -> End
     requires whole { IsSome desk.now.wallet }
     ensures end { Unread (history_at desk.now) fault (K.written sink.old) (K.written sink.new) result }
-    ensures cause { result ≡ WriteFault → Rose (K.faults sink.old) (K.faults sink.new) }
-    ensures kept { result ≢ WriteFault → K.faults sink.new ≡ K.faults sink.old }
+    ensures cause { NamesFault (K.faults sink.old) (K.faults sink.new) (result ≡ WriteFault) }
 {
     match fault {
         HttpFault::BadHttp { at } => refuse(alloc, Refusal::BadHttp { at }, desk, sink),
@@ -306,45 +282,26 @@ fn unread<K: Sink>(alloc: Global, fault: HttpFault, desk: &Desk, sink: &mut K) -
 }
 
 /// Asks the clock, draws a word, and answers a request.
-fn reply_to<D: Disk, S: Source, K: Sink, C: Clock, W: Words, V: Verifier, F: FeeRule>(
+fn reply<D: Disk, S: Source, K: Sink, C: Clock, W: Words, V: Verifier, F: FeeRule>(
     alloc: Global,
     table: &RouteTable,
     raw: &RawRequest,
     desk: &mut Desk,
     outside: &mut Outside<D, S, K, C, W, V, F>,
 ) -> Result<(), End>
-    requires ready { IsReady D.tells desk.old (D.seen outside.old.disk) (D.images outside.old.disk) }
+    requires ready { IsReady D.Disk desk.old outside.old.disk }
     requires sound { IsSound (history_at desk.old) }
 
-    ensures ok { OnOk result (FromEach (history_at desk.old) (λ stood. (entries : List Entry) × (history_at desk.new ≡ now stood ++ entries) × Replies F.FeeTerms.allows (now stood) entries (world_of S.left C.answers W.words K.written V.accepts outside.old) (world_of S.left C.answers W.words K.written V.accepts outside.new) raw.now
-        × Leaves D.tells D.seen D.moment D.since D.images D.faults stood (settled (with_entries stood entries)) outside.old.disk outside.new.disk)) }
-    ensures ready { OnOk result (IsReady D.tells desk.new (D.seen outside.new.disk) (D.images outside.new.disk)) }
-    ensures err { IfErr result (λ end. FromEach (history_at desk.old) (λ stood. (final : Final) × ReplyFails F.FeeTerms.allows stood (world_of S.left C.answers W.words K.written V.accepts outside.old) (world_of S.left C.answers W.words K.written V.accepts outside.new) raw.now end final
-        × Leaves D.tells D.seen D.moment D.since D.images D.faults stood final outside.old.disk outside.new.disk)) }
+    ensures ok { OnOk result (Adds D.Disk (history_at desk.old) (history_at desk.new) outside.old.disk outside.new.disk (λ stood entries. Replies F.FeeTerms.allows (now stood) entries (world_of S.Source C.Clock W.Words K.Sink V.Verifier outside.old) (world_of S.Source C.Clock W.Words K.Sink V.Verifier outside.new) raw.now)) }
+    ensures ready { OnOk result (IsReady D.Disk desk.new outside.new.disk) }
+    ensures err { IfErr result (λ end. EndsBy D.Disk (history_at desk.old) outside.old.disk outside.new.disk (λ stood final. ReplyFails F.FeeTerms.allows stood (world_of S.Source C.Clock W.Words K.Sink V.Verifier outside.old) (world_of S.Source C.Clock W.Words K.Sink V.Verifier outside.new) raw.now end final)) }
     ensures source { outside.new.source ≡ outside.old.source }
     ensures verifier { outside.new.verifier ≡ outside.old.verifier }
-    ensures no_read_fault { result ≢ Err ReadFault }
-    ensures disk_cause { result ≡ Err DiskFault → Rose (D.faults outside.old.disk) (D.faults outside.new.disk) }
-    ensures disk_kept { result ≢ Err DiskFault → result ≢ Err WriteFault → D.faults outside.new.disk ≡ D.faults outside.old.disk }
-    ensures write_cause { result ≡ Err WriteFault → Rose (K.faults outside.old.sink) (K.faults outside.new.sink) }
-    ensures write_kept { result ≢ Err WriteFault → K.faults outside.new.sink ≡ K.faults outside.old.sink }
-    ensures draw_cause { result ≡ Err WordsFault → Rose (W.faults outside.old.draws) (W.faults outside.new.draws) }
-    ensures draw_kept { result ≢ Err WordsFault → W.faults outside.new.draws ≡ W.faults outside.old.draws }
+    ensures causes { HasCauses D.Disk S.Source K.Sink W.Words outside.old outside.new (IsErrOf result) }
 {
     let answer = outside.clock.now();
     match outside.draws.draw() {
-        Ok(word) => answer_one(
-            alloc,
-            table,
-            raw,
-            &outside.verifier,
-            answer,
-            &word,
-            &outside.hook,
-            desk,
-            &mut outside.disk,
-            &mut outside.sink,
-        ),
+        Ok(word) => answer_request(alloc, table, raw, &Asked { answer, word }, desk, outside),
         Err(_) => Err(End::WordsFault),
     }
 }
@@ -358,27 +315,18 @@ fn turn<D: Disk, S: Source, K: Sink, C: Clock, W: Words, V: Verifier, F: FeeRule
     outside: &mut Outside<D, S, K, C, W, V, F>,
 ) -> Result<(), End>
     requires at { reader.old.at < 2 ^ 60 }
-    requires ready { IsReady D.tells desk.old (D.seen outside.old.disk) (D.images outside.old.disk) }
+    requires ready { IsReady D.Disk desk.old outside.old.disk }
     requires sound { IsSound (history_at desk.old) }
 
-    ensures ok { OnOk result (FromEach (history_at desk.old) (λ stood. (entries : List Entry) × (history_at desk.new ≡ now stood ++ entries) × Turns F.FeeTerms.allows (here stood reader.old (world_of S.left C.answers W.words K.written V.accepts outside.old))
-        (here (with_entries stood entries) reader.new (world_of S.left C.answers W.words K.written V.accepts outside.new))
-        × Leaves D.tells D.seen D.moment D.since D.images D.faults stood (settled (with_entries stood entries)) outside.old.disk outside.new.disk)) }
-    ensures ready { OnOk result (IsReady D.tells desk.new (D.seen outside.new.disk) (D.images outside.new.disk)) }
-    ensures err { IfErr result (λ end. FromEach (history_at desk.old) (λ stood. (final : Final) × Stops F.FeeTerms.allows (here stood reader.old (world_of S.left C.answers W.words K.written V.accepts outside.old)) (world_of S.left C.answers W.words K.written V.accepts outside.new) end final
-        × Leaves D.tells D.seen D.moment D.since D.images D.faults stood final outside.old.disk outside.new.disk)) }
+    ensures ok { OnOk result (Adds D.Disk (history_at desk.old) (history_at desk.new) outside.old.disk outside.new.disk (λ stood entries. Turns F.FeeTerms.allows (here stood reader.old (world_of S.Source C.Clock W.Words K.Sink V.Verifier outside.old))
+        (here (with_entries stood entries) reader.new (world_of S.Source C.Clock W.Words K.Sink V.Verifier outside.new)))) }
+    ensures ready { OnOk result (IsReady D.Disk desk.new outside.new.disk) }
+    ensures err { IfErr result (λ end. EndsBy D.Disk (history_at desk.old) outside.old.disk outside.new.disk (λ stood final. Stops F.FeeTerms.allows (here stood reader.old (world_of S.Source C.Clock W.Words K.Sink V.Verifier outside.old)) (world_of S.Source C.Clock W.Words K.Sink V.Verifier outside.new) end final)) }
     ensures moved { OnOk result (reader.new.at ≤ reader.old.at + 81920) }
-    ensures read_cause { result ≡ Err ReadFault → Rose (S.faults outside.old.source) (S.faults outside.new.source) }
-    ensures read_kept { result ≢ Err ReadFault → S.faults outside.new.source ≡ S.faults outside.old.source }
-    ensures disk_cause { result ≡ Err DiskFault → Rose (D.faults outside.old.disk) (D.faults outside.new.disk) }
-    ensures disk_kept { result ≢ Err DiskFault → result ≢ Err WriteFault → D.faults outside.new.disk ≡ D.faults outside.old.disk }
-    ensures write_cause { result ≡ Err WriteFault → Rose (K.faults outside.old.sink) (K.faults outside.new.sink) }
-    ensures write_kept { result ≢ Err WriteFault → K.faults outside.new.sink ≡ K.faults outside.old.sink }
-    ensures draw_cause { result ≡ Err WordsFault → Rose (W.faults outside.old.draws) (W.faults outside.new.draws) }
-    ensures draw_kept { result ≢ Err WordsFault → W.faults outside.new.draws ≡ W.faults outside.old.draws }
+    ensures causes { HasCauses D.Disk S.Source K.Sink W.Words outside.old outside.new (IsErrOf result) }
 {
     match reader.next(alloc, &mut outside.source) {
-        Ok(Some(raw)) => reply_to(alloc, table, &raw, desk, outside),
+        Ok(Some(raw)) => reply(alloc, table, &raw, desk, outside),
         Ok(None) => Err(End::Done),
         Err(fault) => Err(unread(alloc, fault, desk, &mut outside.sink)),
     }
@@ -391,19 +339,12 @@ pub fn session<D: Disk, S: Source, K: Sink, C: Clock, W: Words, V: Verifier, F: 
     mut desk: Desk,
     outside: &mut Outside<D, S, K, C, W, V, F>,
 ) -> End
-    requires ready { IsReady D.tells desk (D.seen outside.old.disk) (D.images outside.old.disk) }
+    requires ready { IsReady D.Disk desk outside.old.disk }
     requires sound { IsSound (history_at desk) }
 
-    ensures session { (final : Final) × Session F.FeeTerms.allows (begun (history_at desk) (world_of S.left C.answers W.words K.written V.accepts outside.old)) (world_of S.left C.answers W.words K.written V.accepts outside.new) result final
-        × Kept D.tells D.seen D.moment D.since D.images D.faults (history_at desk) final outside.old.disk outside.new.disk }
-    ensures read_cause { result ≡ ReadFault → Rose (S.faults outside.old.source) (S.faults outside.new.source) }
-    ensures read_kept { result ≢ ReadFault → S.faults outside.new.source ≡ S.faults outside.old.source }
-    ensures disk_cause { result ≡ DiskFault → Rose (D.faults outside.old.disk) (D.faults outside.new.disk) }
-    ensures disk_kept { result ≢ DiskFault → result ≢ WriteFault → D.faults outside.new.disk ≡ D.faults outside.old.disk }
-    ensures write_cause { result ≡ WriteFault → Rose (K.faults outside.old.sink) (K.faults outside.new.sink) }
-    ensures write_kept { result ≢ WriteFault → K.faults outside.new.sink ≡ K.faults outside.old.sink }
-    ensures draw_cause { result ≡ WordsFault → Rose (W.faults outside.old.draws) (W.faults outside.new.draws) }
-    ensures draw_kept { result ≢ WordsFault → W.faults outside.new.draws ≡ W.faults outside.old.draws }
+    ensures session { (final : Final) × Session F.FeeTerms.allows (begun (history_at desk) (world_of S.Source C.Clock W.Words K.Sink V.Verifier outside.old)) (world_of S.Source C.Clock W.Words K.Sink V.Verifier outside.new) result final
+        × Kept D.Disk (history_at desk) final outside.old.disk outside.new.disk }
+    ensures causes { HasCauses D.Disk S.Source K.Sink W.Words outside.old outside.new (λ end. result ≡ end) }
 {
     let Ok(table) = RouteTable::new(alloc) else {
         return End::OutOfMemory;

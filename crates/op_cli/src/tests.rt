@@ -6,6 +6,7 @@ use crate::program::wallet_main;
 use op_disk::MemoryDisk;
 use op_ports::{MemorySink, MemorySource, TableClock, TableWords, Verifier};
 use op_pricing::{OnePercent, PriceHook};
+use op_session::Status;
 use std::alloc::{AllocError, Global};
 use std::test::Fail;
 
@@ -103,7 +104,7 @@ fn apply(alloc: Global, input: &str, outdoors: Outdoors<'_>) -> Result<Run, Allo
     let mut words = Vec::new(alloc);
     words.push(String::from_str(alloc, "apply")?)?;
     words.push(String::from_str(alloc, "j")?)?;
-    let status = wallet_main(alloc, &words, &mut outside);
+    let status = wallet_main(alloc, &words, &mut outside).code();
     let mut output = String::new(alloc);
     for b in outside.sink.bytes() {
         output.push(char::from(*b))?;
@@ -495,7 +496,7 @@ fn other_words_are_no_command(rt: HostRuntime) -> Result<(), Fail> {
         let mut words = Vec::new(alloc);
         words.push(String::from_str(alloc, "apply")?)?;
         words.push(String::from_str(alloc, word)?)?;
-        assert_eq!(rt; wallet_main(alloc, &words, &mut outside), 2);
+        assert_eq!(rt; wallet_main(alloc, &words, &mut outside), Status::Usage);
         assert_eq!(rt; outside.source.calls(), 0);
         assert_eq!(rt; outside.sink.calls(), 0);
         assert_eq!(rt; outside.disk.calls().len(), 0);

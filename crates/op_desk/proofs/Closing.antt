@@ -7,7 +7,9 @@ use Rattle.std.specs.Int.{w32, to_be_bytes}
 use Rattle.std.specs.Option.{option_map_or}
 use Rattle.std.specs.declared.option.Option.{Option}
 use Rattle.op_disk.proofs.Moments.{started}
-use Rattle.op_disk.specs.Calls.{LeavesOnly}
+use Rattle.op_disk.specs.Moments.{LeavesOnly}
+use Rattle.op_disk.specs.declared.Disk.{Ghosts}
+use Rattle.op_journal.proofs.Fronts.{same_spells, spells_all}
 use Rattle.op_journal.specs.Commits as journal
 use Rattle.op_journal.specs.Commits.{IsSettled, payload_of}
 use Rattle.op_journal.specs.Frames as layout
@@ -20,31 +22,8 @@ use Rattle.op_desk.specs.Wallets.{WalletValue}
 use Rattle.op_desk.proofs.Recovering.{gate_size, none_framed}
 use Rattle.op_desk.proofs.Rounds.{one_more_round, round_size}
 
-shorter_front : (n m : ℕ) (bytes x : List ℕ) → n ≤ m → take m x ≡ take m bytes → take n x ≡ take n bytes
-shorter_front n m bytes x le same = sym (take-take n m x le) ∙ ap (λ (l : List ℕ). take n l) same ∙ take-take n m bytes le
-
--- bytes that are the same up to and with a closed gate spell the same
-same_spells : (payloads : List (List ℕ)) (place : ℕ) (bytes x : List ℕ) → Holds payloads place bytes → get_or bytes place 0 ≢ 1 → take (place + 1) x ≡ take (place + 1) bytes → SpellsUpTo payloads place x
-same_spells payloads place bytes x holds closed same =
-    let gate : get_or x place 0 ≡ get_or bytes place 0 = sym (get_or-take (place + 1) x place 0 (omega arith)) ∙ ap (λ (l : List ℕ). get_or l place 0) same ∙ get_or-take (place + 1) bytes place 0 (omega arith) in
-    record {
-      holds = record {
-        front = shorter_front place (place + 1) bytes x (omega arith) same ∙ holds.front;
-        some = holds.some;
-        gate = omega (arith, holds.gate, length-take (place + 1) x, length-take (place + 1) bytes, ap length same);
-        within = holds.within;
-      };
-      closed = λ is. closed (sym gate ∙ is);
-    }
-
-all_spelled : (payloads : List (List ℕ)) (place : ℕ) (bytes : List ℕ) → SpellsUpTo payloads place bytes → layout.Spells payloads bytes
-all_spelled payloads place bytes spells = elim (cases_lt 9 (length bytes)) [
-  | inl long ↦ inr (long, place, spells)
-  | inr short ↦ inl (short, none_framed payloads (omega (arith, short, gate_size payloads place bytes spells.holds, spells.holds.gate)))
-]
-
 pub rounds_spelled : (rounds : List (List Entry)) (payloads : List (List ℕ)) (tail : ℕ) (c : List ℕ) → AreRounds payloads rounds → SpellsUpTo payloads tail c → SpellsRounds rounds c
-rounds_spelled rounds payloads tail c are upto = record { payloads = payloads; are = are; frames_are = all_spelled payloads tail c upto }
+rounds_spelled rounds payloads tail c are upto = record { payloads = payloads; are = are; frames_are = spells_all payloads tail c upto }
 
 -- each image of a disk that stands spells its rounds
 pub image_spells : (rounds : List (List Entry)) (tail : ℕ) (seen : List ℕ) (images : List ℕ → Type 0) (c : List ℕ) → Stands rounds tail seen images → images c → SpellsRounds rounds c
@@ -80,8 +59,8 @@ either_more rounds round payloads body tail c some are is (inr new) =
 
 -- ---- at every moment
 
-module _ {D : Type 0} (moment : D → ℕ) (since : D → ℕ → List ℕ → Type 0) where
-  weakened : (old new : D) (P Q : List ℕ → Type 0) → LeavesOnly moment since old new P → ((c : List ℕ) → P c → Q c) → LeavesOnly moment since old new Q
+module _ {D : Type 0} (disk : Ghosts D) where
+  weakened : (old new : D) (P Q : List ℕ → Type 0) → LeavesOnly disk old new P → ((c : List ℕ) → P c → Q c) → LeavesOnly disk old new Q
   weakened old new P Q only also = record {
     later = only.later;
     each = λ c left. also c (only.each c left);
@@ -89,15 +68,15 @@ module _ {D : Type 0} (moment : D → ℕ) (since : D → ℕ → List ℕ → T
   }
 
   pub moments_more : (old new : D) (rounds : List (List Entry)) (round : List Entry) (payloads : List (List ℕ)) (body : List ℕ) (tail : ℕ) → (round ≡ [] → ⊥) → AreRounds payloads rounds → IsRound (payload_of body) round
-      → LeavesOnly moment since old new (journal.SpellsEither payloads tail body) → LeavesOnly moment since old new (SpellsEither rounds round)
+      → LeavesOnly disk old new (journal.SpellsEither payloads tail body) → LeavesOnly disk old new (SpellsEither rounds round)
   moments_more old new rounds round payloads body tail some are is only =
       weakened old new (journal.SpellsEither payloads tail body) (SpellsEither rounds round) only (λ c either. either_more rounds round payloads body tail c some are is either)
 
   -- where nothing is done
-  pub moments_none : (seen : D → List ℕ) (images : D → List ℕ → Type 0) (only_now : (d : D) (c : List ℕ) → since d (moment d) c → images d c) (d : D) (rounds : List (List Entry)) (round : List Entry) (tail : ℕ)
-      → Stands rounds tail (seen d) (images d) → LeavesOnly moment since d d (SpellsEither rounds round)
-  moments_none seen images only_now d rounds round tail stands =
-      started moment since d (SpellsEither rounds round) (λ c left. inl (image_spells rounds tail (seen d) (images d) c stands (only_now d c left)))
+  pub moments_none : (only_now : (d : D) (c : List ℕ) → disk.since d (disk.moment d) c → disk.images d c) (d : D) (rounds : List (List Entry)) (round : List Entry) (tail : ℕ)
+      → Stands rounds tail (disk.seen d) (disk.images d) → LeavesOnly disk d d (SpellsEither rounds round)
+  moments_none only_now d rounds round tail stands =
+      started disk d (SpellsEither rounds round) (λ c left. inl (image_spells rounds tail (disk.seen d) (disk.images d) c stands (only_now d c left)))
 
 -- ---- a round that has no room
 
@@ -117,7 +96,7 @@ lacks_room rounds before round at tail seen images stands here found past =
       spelled = record {
         payloads = old;
         are = stands.are;
-        frames_are = all_spelled old tail seen (same_spells old tail seen seen stands.holds stands.settled.closed.1 (stands.settled.alike seen here));
+        frames_are = spells_all old tail seen (same_spells old tail seen seen stands.holds stands.settled.closed.1 (stands.settled.alike seen here));
       };
       found = found;
       round = round;

@@ -1,7 +1,7 @@
 //! The desk: opening it on any disk, beginning rounds, and committing them.
 ghost use Rattle.std.specs.Prelude.{◌≡◌, ◌≢◌, ◌⊎◌, ◌+◌, ◌<◌, ◌≤◌, ◌∷◌, ◌++◌, [], ℕ, List, length, replicate, false, IsTrue, IsSome, IsNone, IfSome, IfOk, OnOk, IfErr, OnErr, IsErrOf, IsErrAnd, IsOk, Ok, None};
-ghost use Rattle.op_causes.specs.Causes.{Rose};
-ghost use Rattle.op_disk.specs.Calls.{LeavesOnly};
+ghost use Rattle.op_causes.specs.Causes.{NamesFault};
+ghost use Rattle.op_disk.specs.Moments.{LeavesOnly};
 ghost use Rattle.op_journal.specs.Commits as journal_spells;
 ghost use Rattle.op_journal.specs.Commits.{IsBody, IsSettled, payload_of};
 ghost use Rattle.op_journal.specs.Frames.{Holds, SpellsUpTo, limit};
@@ -65,11 +65,10 @@ impl Desk {
         // The calls on the disk, by the frames that it had.
         ensures calls { IfOk result (λ desk. IsTrue D.tells → (rounds : List (List Entry)) × SpellsRounds rounds (D.seen disk.old) × (D.moment disk.new ≡ D.moment disk.old + opening_calls (length rounds) (D.seen disk.old))) }
         // At every moment.
-        ensures any_moment { IsTrue D.tells → LeavesOnly D.moment D.since disk.old disk.new (IsOldOrShort (D.images disk.old) (D.seen disk.old)) }
+        ensures any_moment { IsTrue D.tells → LeavesOnly D.Disk disk.old disk.new (IsOldOrShort (D.images disk.old) (D.seen disk.old)) }
         ensures synced { IsTrue D.tells → D.moment disk.old + 1 < D.moment disk.new → (c : List ℕ) → D.since disk.new (D.moment disk.old + 1) c → IsOldOrShort (λ d. d ≡ D.seen disk.old) (D.seen disk.old) c }
         ensures past_sync { IsTrue D.tells → (IsErrOf result DeskFault.DiskFault → ⊥) → D.moment disk.old + 1 < D.moment disk.new }
-        ensures cause { (IsErrOf result DeskFault.DiskFault → ⊥) → D.faults disk.new ≡ D.faults disk.old }
-        ensures fault { IsErrOf result DeskFault.DiskFault → Rose (D.faults disk.old) (D.faults disk.new) }
+        ensures cause { NamesFault (D.faults disk.old) (D.faults disk.new) (IsErrOf result DeskFault.DiskFault) }
     {
         let mut recovery = match Recovery::begin(disk) {
             Ok(recovery) => recovery,
@@ -156,13 +155,12 @@ impl Desk {
         ensures images { OnOk result (IsTrue D.tells → (rounds : List (List Entry)) → Stands rounds self.old.tail (D.seen disk.old) (D.images disk.old)
             → (c : List ℕ) → D.images disk.new c → SpellsRounds (with_round rounds batch.entries) c) }
         ensures any_moment { IsTrue D.tells → (rounds : List (List Entry)) → Stands rounds self.old.tail (D.seen disk.old) (D.images disk.old)
-            → LeavesOnly D.moment D.since disk.old disk.new (SpellsEither rounds batch.entries) }
+            → LeavesOnly D.Disk disk.old disk.new (SpellsEither rounds batch.entries) }
         ensures calls { OnOk result (batch.entries ≢ [] → D.moment disk.new ≡ D.moment disk.old + 4) }
         ensures at_most { D.moment disk.new ≤ D.moment disk.old + 4 }
         ensures empty { batch.entries ≡ [] → IsOk result × (disk.new ≡ disk.old) × (self.new.tail ≡ self.old.tail) }
         ensures refused { OnErr result (IsNone self.new.wallet) }
-        ensures cause { (IsErrOf result RoundFault.DiskFault → ⊥) → D.faults disk.new ≡ D.faults disk.old }
-        ensures fault { IsErrOf result RoundFault.DiskFault → Rose (D.faults disk.old) (D.faults disk.new) }
+        ensures cause { NamesFault (D.faults disk.old) (D.faults disk.new) (IsErrOf result RoundFault.DiskFault) }
         ensures full { (tail need : ℕ) → IsErrOf result (RoundFault.Full tail need) → (batch.entries ≢ []) × (tail ≡ self.old.tail) × (need ≡ length (round_of batch.moment batch.entries) + 6) × (limit < tail + need) × (disk.new ≡ disk.old) }
         ensures no_room { (tail need : ℕ) → IsErrOf result (RoundFault.Full tail need) → IsTrue D.tells → LacksRoom batch.begun (history_in batch) (D.seen disk.new) }
         ensures full_where { batch.entries ≢ [] → limit < self.old.tail + (length (round_of batch.moment batch.entries) + 6) → IsErrOf result (RoundFault.Full self.old.tail (length (round_of batch.moment batch.entries) + 6)) }
@@ -212,12 +210,11 @@ fn commit<D: Disk>(journal: &mut Journal, disk: &mut D, body: &[u8]) -> Result<(
         → SpellsUpTo (payloads ++ payload_of body.now ∷ []) journal.new.tail (D.seen disk.new)) }
     ensures settled { OnOk result (IsTrue D.tells → IsSettled journal.new.tail (D.seen disk.new) (D.images disk.new)) }
     ensures any_moment { IsTrue D.tells → (payloads : List (List ℕ)) → Holds payloads journal.old.tail (D.seen disk.old)
-        → LeavesOnly D.moment D.since disk.old disk.new (journal_spells.SpellsEither payloads journal.old.tail body.now) }
+        → LeavesOnly D.Disk disk.old disk.new (journal_spells.SpellsEither payloads journal.old.tail body.now) }
     ensures committed { OnOk result (journal.new.closed ≡ false) }
     ensures calls { OnOk result (D.moment disk.new ≡ D.moment disk.old + 4) }
     ensures at_most { D.moment disk.new ≤ D.moment disk.old + 4 }
-    ensures cause { (IsErrOf result RoundFault.DiskFault → ⊥) → D.faults disk.new ≡ D.faults disk.old }
-    ensures fault { IsErrOf result RoundFault.DiskFault → Rose (D.faults disk.old) (D.faults disk.new) }
+    ensures cause { NamesFault (D.faults disk.old) (D.faults disk.new) (IsErrOf result RoundFault.DiskFault) }
     ensures full { (tail need : ℕ) → IsErrOf result (RoundFault.Full tail need) → (tail ≡ journal.old.tail) × (need ≡ length body.now + 1) × (limit < tail + need) × (disk.new ≡ disk.old) }
     ensures full_where { limit < journal.old.tail + (length body.now + 1) → IsErrOf result (RoundFault.Full journal.old.tail (length body.now + 1)) }
 {

@@ -91,6 +91,7 @@ fn assets_are_added_round_by_round(rt: HostRuntime) {
         return;
     };
     let Ok(mut disk) = disk(alloc, b"", 1000) else {
+        assert!(rt; false);
         return;
     };
     let first = add(alloc, &mut disk, usd);
@@ -119,6 +120,7 @@ fn a_journal_of_version_1_is_continued_in_place(rt: HostRuntime) {
         return;
     };
     let Ok(mut disk) = disk(alloc, OLD, 1000) else {
+        assert!(rt; false);
         return;
     };
     let answer = add(alloc, &mut disk, eur);
@@ -225,12 +227,14 @@ fn a_stop_within_a_round_leaves_the_old_history_or_the_whole_round(rt: HostRunti
     };
     for (fails, wanted, entries) in rows {
         let Ok(mut disk) = disk(alloc, b"", fails) else {
+            assert!(rt; false);
             return;
         };
         let answer = add(alloc, &mut disk, usd);
         assert!(rt; matches!(&answer, Ok(Ok(_))) == (fails == 9));
         assert!(rt; matches!(&answer, Ok(Err(RoundFault::DiskFault))) == (fails < 9));
         let Ok(image) = disk.image(wanted) else {
+            assert!(rt; false);
             return;
         };
         assert!(rt; matches!(count(alloc, &image), Ok(found) if found == entries));

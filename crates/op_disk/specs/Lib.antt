@@ -2,3 +2,4 @@ pub mod Calls
 pub mod Crash
 pub mod Memory
 pub mod MemoryView
+pub mod Moments

@@ -5,22 +5,28 @@ ghost use Rattle.op_http.specs.Head.{Frames, FramesNot};
 use crate::head::{Head, take_head};
 use crate::length::{body_length, has_field};
 use std::alloc::Global;
+use thiserror::Error;
 
 /// The most bytes of a body.
 const BODY_LIMIT: u64 = 65_536;
 
 /// Why no body is told.
-#[derive(Drop)]
+#[derive(Clone, Copy, Debug, PartialEq, Eq, Error)]
 pub enum FrameFault {
     /// The window has no head.
+    #[error("no head of a request")]
     NoHead,
     /// The body's length is told by `transfer-encoding`.
+    #[error("the body's length is told by transfer-encoding")]
     Chunked,
     /// Two values tell the body's length differently, or a value is no length.
+    #[error("the body has no one length")]
     BadLength,
     /// The body is longer than it may be.
+    #[error("the body is too long")]
     LongBody,
     /// Memory was wanting.
+    #[error("memory was wanting")]
     NoMemory,
 }
 

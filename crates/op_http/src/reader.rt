@@ -2,7 +2,7 @@
 ghost use Rattle.std.specs.Prelude.{◌≡◌, ◌<◌, ◌≤◌, ◌+◌, ◌-◌, ◌^◌, ◌++◌, ℕ, List, [], Option, Some, length, take, drop, max, ◌≢◌, IsTrue, ◌↔◌, IfOk, IfErr, OnErr, IsErrOf, MatchOption, vec_len};
 ghost use Rattle.std.specs.Bool.{MatchBool};
 ghost use Rattle.std.specs.Io.KnownBytes.{Consumes, IsAtEnd, Keeps};
-ghost use Rattle.op_causes.specs.Causes.{Rose};
+ghost use Rattle.op_causes.specs.Causes.{NamesFault};
 ghost use Rattle.op_model.specs.Requests.{IsEnded, head_limit};
 ghost use Rattle.op_http.specs.Marks.{HasNoMark, HasNoMarkTo, IsFirstMark, IsEdge};
 ghost use Rattle.op_http.specs.Reader.{fault_of, IsOpen};
@@ -14,6 +14,7 @@ use crate::request::RawRequest;
 use op_ports::Source;
 use std::alloc::{AllocError, Global};
 use std::marker::Model;
+use thiserror::Error;
 
 /// The most bytes of a head.
 const HEAD_LIMIT: usize = 16_384;
@@ -33,7 +34,7 @@ enum Edge {
 }
 
 /// Why no more of the stream is held.
-#[derive(Drop)]
+#[derive(Clone, Copy, Debug, PartialEq, Eq)]
 enum FillFault {
     /// A read failed.
     Read,
@@ -42,17 +43,22 @@ enum FillFault {
 }
 
 /// Why there is no request.
-#[derive(Drop)]
+#[derive(Clone, Copy, Debug, PartialEq, Eq, Error)]
 pub enum HttpFault {
     /// The stream goes on, from this offset, with no request (RFC 9112, section 2.2): 400.
+    #[error("the stream goes on with no request at byte {at}")]
     BadHttp { at: u64 },
     /// The length of the body is not told by `content-length` (RFC 9112, section 6.3): 411.
+    #[error("the request at byte {at} does not tell its length")]
     LengthRequired { at: u64 },
     /// The head or the body is longer than it may be: 413.
+    #[error("the request at byte {at} is too large")]
     TooLarge { at: u64 },
     /// A read failed.
+    #[error("a read failed")]
     ReadFault,
     /// Memory was wanting.
+    #[error("memory was wanting")]
     Memory,
 }
 
@@ -114,8 +120,7 @@ fn fill<S: Source>(kept: &mut Vec<u8>, source: &mut S, most: usize) -> Result<us
     ensures read { IfOk result (λ n. (piece : List ℕ) × (kept.new.items ≡ kept.old.items ++ piece) × (length piece ≡ n) × (n ≤ most)
         × Consumes (S.left source.old) (S.left source.new) piece × (n ≡ 0 → IsAtEnd (S.left source.new))) }
     ensures err { OnErr result ((kept.new.items ≡ kept.old.items) × Keeps (S.left source.old) (S.left source.new)) }
-    ensures cause { IsErrOf result FillFault.Read → Rose (S.faults source.old) (S.faults source.new) }
-    ensures faults { ¬ IsErrOf result FillFault.Read → S.faults source.new ≡ S.faults source.old }
+    ensures cause { NamesFault (S.faults source.old) (S.faults source.new) (IsErrOf result FillFault.Read) }
 {
     let most = most.min(PIECE);
     if kept.reserve(most).is_err() {
@@ -200,8 +205,7 @@ impl Reader {
         ensures count { IfOk result (λ n. length self.new.bytes ≡ length self.old.bytes + n) }
         ensures end { IfOk result (λ n. n ≡ 0 → (self.new.bytes ≡ self.old.bytes) × IsAtEnd (S.left source.new)) }
         ensures err { OnErr result (self.new.bytes ≡ self.old.bytes) }
-        ensures cause { IsErrOf result FillFault.Read → Rose (S.faults source.old) (S.faults source.new) }
-        ensures faults { ¬ IsErrOf result FillFault.Read → S.faults source.new ≡ S.faults source.old }
+        ensures cause { NamesFault (S.faults source.old) (S.faults source.new) (IsErrOf result FillFault.Read) }
     {
         let most = most - self.kept.len();
         fill(&mut self.kept, source, most)
@@ -222,8 +226,7 @@ impl Reader {
         ensures edge { IfOk result (IsEdge self.new.bytes (S.left source.new)) }
         ensures open { OnErr result (HasNoMark self.new.bytes) }
         ensures kept { length self.new.bytes ≤ max (length self.old.bytes) head_limit }
-        ensures cause { IsErrOf result FillFault.Read → Rose (S.faults source.old) (S.faults source.new) }
-        ensures faults { ¬ IsErrOf result FillFault.Read → S.faults source.new ≡ S.faults source.old }
+        ensures cause { NamesFault (S.faults source.old) (S.faults source.new) (IsErrOf result FillFault.Read) }
     {
         // How many bytes were looked through.
         let mut scanned = 0;
@@ -246,8 +249,7 @@ impl Reader {
         ensures held { IfOk result (λ whole. MatchBool whole (count ≤ length self.new.bytes) ((length self.new.bytes < count) × IsAtEnd (S.left source.new))) }
         ensures short { OnErr result (length self.new.bytes < count) }
         ensures kept { length self.new.bytes ≤ max (length self.old.bytes) count }
-        ensures cause { IsErrOf result FillFault.Read → Rose (S.faults source.old) (S.faults source.new) }
-        ensures faults { ¬ IsErrOf result FillFault.Read → S.faults source.new ≡ S.faults source.old }
+        ensures cause { NamesFault (S.faults source.old) (S.faults source.new) (IsErrOf result FillFault.Read) }
     {
         'reading: while self.len() < count {
             match self.more(source, count) {
@@ -297,8 +299,7 @@ impl Reader {
         requires place { self.old.at < 2 ^ 60 }
         ensures reads { ReadsOne self.old self.new (S.left source.old) (S.left source.new) result }
         ensures kept { length self.new.bytes ≤ max (length self.old.bytes) (head_limit + body_limit) }
-        ensures cause { IsErrOf result HttpFault.ReadFault → Rose (S.faults source.old) (S.faults source.new) }
-        ensures faults { ¬ IsErrOf result HttpFault.ReadFault → S.faults source.new ≡ S.faults source.old }
+        ensures cause { NamesFault (S.faults source.old) (S.faults source.new) (IsErrOf result HttpFault.ReadFault) }
     {
         let end = frame.head.len + frame.size;
         match self.hold(source, end) {
@@ -337,8 +338,7 @@ impl Reader {
         requires { self.old.at < 2 ^ 60 }
         ensures reads { Reads self.old self.new (S.left source.old) (S.left source.new) result }
         ensures kept { length self.new.bytes ≤ max (length self.old.bytes) (head_limit + body_limit) }
-        ensures cause { IsErrOf result HttpFault.ReadFault → Rose (S.faults source.old) (S.faults source.new) }
-        ensures faults { ¬ IsErrOf result HttpFault.ReadFault → S.faults source.new ≡ S.faults source.old }
+        ensures cause { NamesFault (S.faults source.old) (S.faults source.new) (IsErrOf result HttpFault.ReadFault) }
     {
         let end = match self.find_edge(source) {
             Ok(Edge::Mark(end)) => end,

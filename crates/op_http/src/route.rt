@@ -8,16 +8,31 @@ ghost use Rattle.op_http.specs.declared.route.RouteFault.TheVariants as faults;
 
 use op_model::{Route, Text};
 use std::alloc::{AllocError, Global};
+use std::fmt;
+use thiserror::Error;
 
 /// Why there is no route.
-#[derive(Drop)]
+#[derive(Drop, Error)]
 pub enum RouteFault {
     /// No path of the table fits, and it is no address path: 404.
+    #[error("no route has this path")]
     NoRoute,
     /// The path has other methods, these: 405 (RFC 9110, section 15.5.6).
+    #[error("the path has other methods")]
     BadMethod { allow: Text },
     /// Memory was wanting.
+    #[error("memory was wanting")]
     Memory,
+}
+
+impl fmt::Debug for RouteFault {
+    fn fmt<W: fmt::Write>(&self, f: &mut fmt::Formatter<W>) -> fmt::Result {
+        f.write_str(match self {
+            RouteFault::NoRoute => "NoRoute",
+            RouteFault::BadMethod { .. } => "BadMethod",
+            RouteFault::Memory => "Memory",
+        })
+    }
 }
 
 impl From<AllocError> for RouteFault {

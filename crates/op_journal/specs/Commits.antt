@@ -1,7 +1,8 @@
 -- What a commit is given, and what a crash in it may leave.
-use Rattle.std.specs.Prelude.{◌≡◌, ◌⊎◌, ◌<◌, ◌+◌, ◌-◌, ℕ, List, [], ◌∷◌, ◌++◌, length, take, drop}
+use Rattle.std.specs.Prelude.{◌≡◌, ◌⊎◌, ◌<◌, ◌≤◌, ◌+◌, ◌-◌, ℕ, List, [], ◌∷◌, ◌++◌, length, take, drop, map, Vec}
 use Rattle.std.specs.Int.{w32, to_be_bytes}
-use Rattle.op_journal.specs.Frames.{IsClosed, SpellsUpTo}
+use Rattle.std.specs.declared.alloc.Global.{Global}
+use Rattle.op_journal.specs.Frames.{IsClosed, SpellsUpTo, Spells}
 
 -- the payload of what a commit writes behind the gate
 abbrev pub payload_of : List ℕ → List ℕ

@@ -1,7 +1,7 @@
 // Commits to a journal.
-ghost use Rattle.std.specs.Prelude.{◌≡◌, ◌+◌, ◌<◌, ◌≤◌, ◌∷◌, ◌++◌, [], ℕ, List, length, IsTrue, OnOk, IsErrOf, true, false};
-ghost use Rattle.op_causes.specs.Causes.{HasCause, Rose};
-ghost use Rattle.op_disk.specs.Calls.{LeavesOnly};
+ghost use Rattle.std.specs.Prelude.{◌≡◌, ◌+◌, ◌*◌, ◌<◌, ◌≤◌, ◌∷◌, ◌++◌, [], ℕ, List, length, slice_index_or, IsTrue, OnOk, OnErr, IsErrOf, true, false};
+ghost use Rattle.op_causes.specs.Causes.{HasCause, NamesFault};
+ghost use Rattle.op_disk.specs.Moments.{LeavesOnly};
 ghost use Rattle.op_journal.specs.declared.commits.CommitFault.TheVariants.{DiskFault as Faulty};
 ghost use Rattle.op_journal.specs.Commits.{IsBody, IsSettled, SpellsEither, payload_of};
 ghost use Rattle.op_journal.specs.Frames.{Holds, SpellsUpTo, limit};
@@ -69,12 +69,12 @@ impl Journal {
             → SpellsUpTo (payloads ++ payload_of body.now ∷ []) self.new.tail (D.seen disk.new)) }
         ensures settled { OnOk result (IsTrue D.tells → IsSettled self.new.tail (D.seen disk.new) (D.images disk.new)) }
         ensures any_moment { IsTrue D.tells → self.old.closed ≡ false → (payloads : List (List ℕ)) → Holds payloads self.old.tail (D.seen disk.old)
-            → LeavesOnly D.moment D.since disk.old disk.new (SpellsEither payloads self.old.tail body.now) }
+            → LeavesOnly D.Disk disk.old disk.new (SpellsEither payloads self.old.tail body.now) }
         ensures committed { OnOk result ((self.old.closed ≡ false) × (self.new.closed ≡ false) × (self.new.tail ≡ self.old.tail + length body.now)) }
         ensures calls { OnOk result (D.moment disk.new ≡ D.moment disk.old + 4) }
         ensures at_most { D.moment disk.new ≤ D.moment disk.old + 4 }
-        ensures cause { (IsErrOf result CommitFault.DiskFault → ⊥) → D.faults disk.new ≡ D.faults disk.old }
-        ensures fault { IsErrOf result CommitFault.DiskFault → Rose (D.faults disk.old) (D.faults disk.new) × (self.old.closed ≡ false) × (self.new.closed ≡ true) × (self.new.tail ≡ self.old.tail) }
+        ensures cause { NamesFault (D.faults disk.old) (D.faults disk.new) (IsErrOf result CommitFault.DiskFault) }
+        ensures fault { IsErrOf result CommitFault.DiskFault → (self.old.closed ≡ false) × (self.new.closed ≡ true) × (self.new.tail ≡ self.old.tail) }
         ensures full { (tail need : ℕ) → IsErrOf result (CommitFault.Full tail need) → (self.old.closed ≡ false) × (tail ≡ self.old.tail) × (need ≡ length body.now + 1) × (limit < tail + need) × (disk.new ≡ disk.old) × (self.new ≡ self.old) }
         ensures full_where { self.old.closed ≡ false → limit < self.old.tail + (length body.now + 1) → IsErrOf result (CommitFault.Full self.old.tail (length body.now + 1)) }
         ensures closed { IsErrOf result CommitFault.Closed → (self.old.closed ≡ true) × (disk.new ≡ disk.old) × (self.new ≡ self.old) }
@@ -108,7 +108,7 @@ fn write_frame<D: Disk>(disk: &mut D, tail: u64, body: &[u8]) -> Result<(), Disk
         → SpellsUpTo (payloads ++ payload_of body.now ∷ []) (tail + length body.now) (D.seen disk.new)) }
     ensures settled { OnOk result (IsTrue D.tells → IsSettled (tail + length body.now) (D.seen disk.new) (D.images disk.new)) }
     ensures any_moment { IsTrue D.tells → (payloads : List (List ℕ)) → Holds payloads tail (D.seen disk.old)
-        → LeavesOnly D.moment D.since disk.old disk.new (SpellsEither payloads tail body.now) }
+        → LeavesOnly D.Disk disk.old disk.new (SpellsEither payloads tail body.now) }
     ensures calls { OnOk result (D.moment disk.new ≡ D.moment disk.old + 4) }
     ensures at_most { D.moment disk.new ≤ D.moment disk.old + 4 }
     ensures cause { HasCause (D.faults disk.old) (D.faults disk.new) result }

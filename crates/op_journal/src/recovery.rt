@@ -1,8 +1,9 @@
 // Opening a journal on any disk, and reading its frames.
 ghost use Rattle.std.specs.Prelude.{◌≡◌, ◌≢◌, ◌⊎◌, ◌+◌, ◌<◌, ◌≤◌, ◌∷◌, ◌++◌, [], ℕ, List, length, take, drop, IsTrue, IfOk, IfErr, OnOk, OnErr, IsErrOf, Ok, true, false, nat_le, if◌then◌else◌};
 ghost use Rattle.std.specs.Int.{w32, to_be_bytes, from_be_bytes};
-ghost use Rattle.op_causes.specs.Causes.{NamesFault, Rose};
-ghost use Rattle.op_disk.specs.Calls.{LeavesOnly, NoMore, Only};
+ghost use Rattle.op_causes.specs.Causes.{NamesFault};
+ghost use Rattle.op_disk.specs.Calls.{NoMore, Only};
+ghost use Rattle.op_disk.specs.Moments.{LeavesOnly};
 ghost use Rattle.op_journal.specs.declared.recovery.JournalFault.TheVariants.{DiskFault as Faulty, Memory as NoMemory};
 ghost use Rattle.op_journal.specs.Commits.{IsSettled};
 ghost use Rattle.op_journal.specs.Frames.{Holds, SpellsUpTo, IsClosed, IsFrameAt, IsBadFrame, header, limit};
@@ -78,12 +79,11 @@ impl Recovery {
         ensures found { IfOk result (λ r. IsTrue D.tells → IsFound r.length (D.seen disk.new) (D.images disk.new)) }
         ensures holds { IfOk result (λ r. IsTrue D.tells → Holds [] r.at (D.seen disk.new)) }
         ensures bad_header { IsErrOf result JournalFault.BadHeader → IsTrue D.tells → (9 < length (D.seen disk.old)) × (take 8 (D.seen disk.old) ≢ header) × (D.seen disk.new ≡ D.seen disk.old) × Only (D.seen disk.new) (D.images disk.new) }
-        ensures any_moment { IsTrue D.tells → LeavesOnly D.moment D.since disk.old disk.new (IsOldOrShort (D.images disk.old) (D.seen disk.old)) }
+        ensures any_moment { IsTrue D.tells → LeavesOnly D.Disk disk.old disk.new (IsOldOrShort (D.images disk.old) (D.seen disk.old)) }
         ensures synced { IsTrue D.tells → D.moment disk.old + 1 < D.moment disk.new → (c : List ℕ) → D.since disk.new (D.moment disk.old + 1) c → IsOldOrShort (λ d. d ≡ D.seen disk.old) (D.seen disk.old) c }
         ensures calls { IfOk result (λ r. IsTrue D.tells → D.moment disk.new ≡ (if nat_le (length (D.seen disk.old)) 9 then D.moment disk.old + 4 else D.moment disk.old + 3)) }
         ensures past_sync { (IsErrOf result JournalFault.DiskFault → ⊥) → D.moment disk.old + 1 < D.moment disk.new }
-        ensures cause { (IsErrOf result JournalFault.DiskFault → ⊥) → D.faults disk.new ≡ D.faults disk.old }
-        ensures fault { IsErrOf result JournalFault.DiskFault → Rose (D.faults disk.old) (D.faults disk.new) }
+        ensures cause { NamesFault (D.faults disk.old) (D.faults disk.new) (IsErrOf result JournalFault.DiskFault) }
         ensures refusals { IfErr result (λ e. (e ≡ JournalFault.DiskFault) ⊎ (e ≡ JournalFault.BadHeader)) }
     {
         disk.sync()?;
@@ -133,12 +133,11 @@ impl Recovery {
         ensures length { self.new.length ≡ self.old.length }
         ensures seen { D.seen disk.new ≡ D.seen disk.old }
         ensures found { IsTrue D.tells → IsFound self.new.length (D.seen disk.new) (D.images disk.new) }
-        ensures any_moment { IsTrue D.tells → LeavesOnly D.moment D.since disk.old disk.new (λ c. c ≡ D.seen disk.old) }
+        ensures any_moment { IsTrue D.tells → LeavesOnly D.Disk disk.old disk.new (λ c. c ≡ D.seen disk.old) }
         // A frame is read by three calls, and a gate that is not open by one.
         ensures calls { result ≡ Ok true → D.moment disk.new ≡ D.moment disk.old + 3 }
         ensures last_call { result ≡ Ok false → D.moment disk.new ≡ D.moment disk.old + 1 }
-        ensures cause { (IsErrOf result JournalFault.DiskFault → ⊥) → D.faults disk.new ≡ D.faults disk.old }
-        ensures fault { IsErrOf result JournalFault.DiskFault → Rose (D.faults disk.old) (D.faults disk.new) }
+        ensures cause { NamesFault (D.faults disk.old) (D.faults disk.new) (IsErrOf result JournalFault.DiskFault) }
         ensures refusals { IfErr result (λ e. e ≢ JournalFault.BadHeader) }
     {
         let mut gate = [0; 1];
@@ -187,7 +186,7 @@ fn read_range<D: Disk>(
     ensures bytes { IfOk result (λ v. IsTrue D.tells → v.items ≡ take count (drop at (D.seen disk.old))) }
     ensures seen { D.seen disk.new ≡ D.seen disk.old }
     ensures crash { NoMore (D.images disk.old) (D.images disk.new) }
-    ensures any_moment { LeavesOnly D.moment D.since disk.old disk.new (D.images disk.old) }
+    ensures any_moment { LeavesOnly D.Disk disk.old disk.new (D.images disk.old) }
     ensures calls { OnOk result (D.moment disk.new ≡ D.moment disk.old + 1) }
     ensures cause { NamesFault (D.faults disk.old) (D.faults disk.new) (IsErrOf result JournalFault.DiskFault) }
     ensures refusals { IfErr result (λ e. (e ≡ JournalFault.DiskFault) ⊎ (e ≡ JournalFault.Memory)) }

@@ -1,14 +1,15 @@
 //! The program: it makes the edges, calls `wallet_main`, and exits with its status.
 #![tactic(auto)]
 
-ghost use Rattle.std.specs.Prelude.{◌≡◌, ◌≢◌, ◌↔◌, ◌⊎◌, IfOk, drop, false, map, option_copied, string_bytes};
+ghost use Rattle.std.specs.Prelude.{◌≡◌, ◌≢◌, ◌↔◌, ◌⊎◌, IfOk, drop, false, map, string_bytes};
 ghost use Rattle.std.specs.Vec.Iter.{into_iter_items};
 ghost use Rattle.std.specs.IoError.{error_kind};
 ghost use Rattle.std.specs.declared.io.ErrorKind.TheVariants.{InvalidData};
 ghost use Rattle.op_access.specs.Proof.{master_of};
 ghost use Rattle.op_session.specs.Program.{is_command};
+ghost use Rattle.op_session.specs.declared.end.End.TheVariants.{OutOfMemory};
+ghost use Rattle.op_session.specs.declared.status.Status.TheVariants.{Ended};
 ghost use Rattle.wallet.specs.Edges.{path_of};
-ghost use Rattle.wallet.specs.Statuses.{line_of};
 ghost use Rattle.wallet.specs.Words.{journal_of};
 
 mod master;
@@ -19,18 +20,13 @@ use op_cli::{Outside, wallet_main};
 use op_disk::FileDisk;
 use op_ports::{ReadSource, SystemClock, SystemWords, WriteSink};
 use op_pricing::{OnePercent, PriceHook};
+use op_session::{End, Status};
 use std::alloc::{AllocError, Global};
 use std::env::Args;
 use std::io::Printer;
 use std::process::ExitCode;
 use std::rt::{Env, Stdin};
 use std::{env, io};
-
-/// The status where the words are no command, or the environment holds no master secret.
-const USAGE: u8 = 2;
-
-/// The status where memory was wanting.
-const OUT_OF_MEMORY: u8 = 8;
 
 /// The edges of the program.
 type Edges<'a> = Outside<
@@ -48,10 +44,10 @@ fn main(rt: HostRuntime) -> ExitCode {
         Ok(words) => start(&rt, &words),
         Err(fault) => status_without_words(&fault),
     };
-    if let Some(line) = line_for(status) {
+    if let Some(line) = status.line() {
         let _ = eprintln!(rt; "{line}");
     }
-    ExitCode::from(status)
+    ExitCode::from(status.code())
 }
 
 /// The words after the program's name.
@@ -67,18 +63,18 @@ fn after_first(alloc: Global, words: Args) -> Result<Vec<String>, AllocError>
 }
 
 /// The status where the words cannot be read: words that are no text are no command, and else memory was wanting.
-fn status_without_words(fault: &io::Error) -> u8
-    ensures no_text { (result ≡ 2) ↔ (error_kind fault.now ≡ InvalidData) }
-    ensures memory { error_kind fault.now ≢ InvalidData → result ≡ 8 }
+fn status_without_words(fault: &io::Error) -> Status
+    ensures no_text { (result ≡ Status.Usage) ↔ (error_kind fault.now ≡ InvalidData) }
+    ensures memory { error_kind fault.now ≢ InvalidData → result ≡ Ended OutOfMemory }
 {
     match fault.kind() {
-        io::ErrorKind::InvalidData => USAGE,
-        _ => OUT_OF_MEMORY,
+        io::ErrorKind::InvalidData => Status::Usage,
+        _ => Status::Ended(End::OutOfMemory),
     }
 }
 
 /// The command, where the environment holds a master secret.
-fn start(rt: &HostRuntime, words: &[String]) -> u8 {
+fn start(rt: &HostRuntime, words: &[String]) -> Status {
     match master_secret(rt) {
         Ok(master) => run(rt, words, master),
         Err(fault) => status_without_master(fault),
@@ -86,23 +82,23 @@ fn start(rt: &HostRuntime, words: &[String]) -> u8 {
 }
 
 /// The status where there is no master secret.
-fn status_without_master(fault: MasterFault) -> u8
-    ensures malformed { (result ≡ 2) ↔ (fault ≡ MasterFault.Malformed) }
-    ensures memory { (result ≡ 8) ↔ (fault ≡ MasterFault.Memory) }
+fn status_without_master(fault: MasterFault) -> Status
+    ensures malformed { (result ≡ Status.Usage) ↔ (fault ≡ MasterFault.Malformed) }
+    ensures memory { (result ≡ Ended OutOfMemory) ↔ (fault ≡ MasterFault.Memory) }
 {
     match fault {
-        MasterFault::Malformed => USAGE,
-        MasterFault::Memory => OUT_OF_MEMORY,
+        MasterFault::Malformed => Status::Usage,
+        MasterFault::Memory => Status::Ended(End::OutOfMemory),
     }
 }
 
 /// The command over the edges of this runtime.
-fn run(rt: &HostRuntime, words: &[String], master: [u8; 32]) -> u8
-    ensures usage { result ≡ 2 → is_command (map string_bytes words.now) ≡ false }
-    ensures usage_where { is_command (map string_bytes words.now) ≡ false → (result ≡ 2) ⊎ (result ≡ 8) }
+fn run(rt: &HostRuntime, words: &[String], master: [u8; 32]) -> Status
+    ensures usage { result ≡ Status.Usage → is_command (map string_bytes words.now) ≡ false }
+    ensures usage_where { is_command (map string_bytes words.now) ≡ false → (result ≡ Status.Usage) ⊎ (result ≡ Ended OutOfMemory) }
 {
     let Ok(journal) = journal_name(rt.alloc(), words) else {
-        return OUT_OF_MEMORY;
+        return Status::Ended(End::OutOfMemory);
     };
     wallet_main(rt.alloc(), words, &mut edges(rt, journal, master))
 }
@@ -132,25 +128,5 @@ fn journal_name(alloc: Global, words: &[String]) -> Result<String, AllocError>
     match words {
         [_, journal, ..] => String::from_str(alloc, journal.as_str()),
         _ => Ok(String::new(alloc)),
-    }
-}
-
-/// What a status means, in one line: none where all went well.
-fn line_for(status: u8) -> Option<&'static str>
-    ensures { option_copied result ≡ line_of status }
-{
-    match status {
-        0 => None,
-        2 => Some("usage: wallet apply JOURNAL"),
-        3 => Some("wallet: the journal spells no legal history"),
-        4 => Some("wallet: a read of the input failed"),
-        5 => Some("wallet: a call on the journal's file failed"),
-        6 => Some("wallet: a write of the output failed"),
-        7 => Some("wallet: the journal is full"),
-        8 => Some("wallet: memory was wanting"),
-        9 => Some("wallet: no random bytes could be drawn"),
-        10 => Some("wallet: the rest of the input begins with no request"),
-        11 => Some("wallet: as many requests were answered as one session answers"),
-        _ => Some("wallet: unknown status"),
     }
 }

@@ -8,16 +8,19 @@ use hex::FromHex;
 use std::env;
 use std::env::VarError;
 use std::rt::Env;
+use thiserror::Error;
 
 /// The environment variable that holds the master secret.
 const VARIABLE: &str = "OP_WALLET_MASTER";
 
 /// Why there is no master secret.
-#[derive(Clone, Copy, Debug, PartialEq, Eq)]
+#[derive(Clone, Copy, Debug, PartialEq, Eq, Error)]
 pub enum MasterFault {
     /// The variable is set, and does not hold 64 hexadecimal digits.
+    #[error("OP_WALLET_MASTER does not hold 64 hexadecimal digits")]
     Malformed,
     /// Memory was wanting.
+    #[error("memory was wanting")]
     Memory,
 }
 

@@ -22,10 +22,10 @@ returns-clause-answered g c =
     let is : history_in batch ≡ history = ap (λ (entries : List Entry). batch.begun ++ entries) fresh.1 ∙ (append-nil batch.begun ∙ begun) in
     let wallet = c.wallet.ensures.value in
     let same : c.wallet.result.now.history ≡ history = ap (λ (w : WalletValue). w.history) wallet.2 ∙ sym (wallet_is c.args.desk.now wallet.0 wallet.1) in
-    let at : batch.moment ≡ moment_of_turn history c.args.answer = (
+    let at : batch.moment ≡ moment_of_turn history c.args.asked.now.answer = (
     fresh.0 ∙ c.later-t.ensures ∙ ap (λ (n : ℕ). max n c.at_most_last.result) (c.last.ensures.value ∙ ap last_moment same) ∙ ap (λ (n : ℕ). max (last_moment history) n) c.at_most_last.ensures
     ) in (
       c.act-reply.result,
-      handles_same g.F.FeeTerms.allows (history_in batch) history (history_in c.act-reply.new.self) batch.moment (moment_of_turn history c.args.answer) (length batch.entries) 0 c.args.task.now c.args.word.now c.act-reply.result is at (ap length fresh.1) c.act-reply.ensures.handled,
+      handles_same g.F.FeeTerms.allows (history_in batch) history (history_in c.act-reply.new.self) batch.moment (moment_of_turn history c.args.asked.now.answer) (length batch.entries) 0 c.args.task.now c.args.asked.now.word c.act-reply.result is at (ap length fresh.1) c.act-reply.ensures.handled,
       c.in_ok-text.ensures,
     )

@@ -14,14 +14,14 @@ use Rattle.op_cli.proofs.session.end_round.Goals as goal
 pub returns-in-Ok-clause-ready : goal.returns-in-Ok-clause-ready
 returns-in-Ok-clause-ready g c =
     on_ok_map c.write_reply.result
-    (λ (_ : Unit {0}). ready_behind g.D.Disk.tells g.D.Disk.seen g.D.Disk.images c.close_round.new.self c.args.round.batch.begun c.args.round.batch.entries c.args.desk.now.tail c.args.disk.now c.close_round.new.disk
+    (λ (_ : Unit {0}). ready_behind g.D.Disk c.close_round.new.self c.args.round.batch.begun c.args.round.batch.entries c.args.desk.now.tail c.args.disk.now c.close_round.new.disk
     c.in-Ok.ensures.whole c.requires.stands c.in-Ok.ensures.stands)
     (on_ok_always c.write_reply.result)
 
 pub returns-in-Ok-clause-stands : goal.returns-in-Ok-clause-stands
 returns-in-Ok-clause-stands g c =
     on_ok_map c.write_reply.result
-    (λ (_ : Unit {0}). leaves_round g.D.Disk.tells g.D.Disk.seen g.D.Disk.moment g.D.Disk.since g.D.Disk.images g.D.Disk.faults g.met.D.Disk.reads_an_image c.args.round.batch.begun c.args.round.batch.entries c.args.desk.now.tail c.args.disk.now c.close_round.new.disk c.in-Ok.ensures.sound
+    (λ (_ : Unit {0}). leaves_round g.D.Disk g.met.D.Disk.reads_an_image c.args.round.batch.begun c.args.round.batch.entries c.args.desk.now.tail c.args.disk.now c.close_round.new.disk c.in-Ok.ensures.sound
     c.requires.stands c.in-Ok.ensures.any_moment c.in-Ok.ensures.images
     c.in-Ok.ensures.calls (λ none. (c.in-Ok.ensures.empty none).1))
     (on_ok_always c.write_reply.result)
@@ -33,7 +33,7 @@ returns-in-Ok-clause-err g c =
       settled (with_entries stood c.args.round.batch.entries),
       cut_reply stood c.args.round.batch.entries _ _ c.args.round.text.items end failed.0
           (subst (λ (k : List ℕ). AppendsFront (g.K.Sink.written c.args.sink.now) (g.K.Sink.written c.write_reply.new.sink) k) c.deref.ensures.value failed.1),
-      leaves_round g.D.Disk.tells g.D.Disk.seen g.D.Disk.moment g.D.Disk.since g.D.Disk.images g.D.Disk.faults g.met.D.Disk.reads_an_image c.args.round.batch.begun c.args.round.batch.entries c.args.desk.now.tail c.args.disk.now c.close_round.new.disk c.in-Ok.ensures.sound
+      leaves_round g.D.Disk g.met.D.Disk.reads_an_image c.args.round.batch.begun c.args.round.batch.entries c.args.desk.now.tail c.args.disk.now c.close_round.new.disk c.in-Ok.ensures.sound
           c.requires.stands c.in-Ok.ensures.any_moment c.in-Ok.ensures.images
           c.in-Ok.ensures.calls (λ none. (c.in-Ok.ensures.empty none).1) stood is,
     ))
@@ -46,9 +46,9 @@ returns-in-Err-DiskFault-clause-err g c stood is =
     let some : round ≢ [] = λ none. let ok = (c.in-Err-DiskFault.ensures.empty none).0 in cc in (
       tried_after stood (with_entries stood round),
       lost_on_disk stood round _ _ c.args.round.text.items c.write_last.result c.disk_fault_reply.result.now some (c.disk_fault_reply.ensures (origin_of (now stood))) c.write_last.ensures.end,
-      leaves_failed g.D.Disk.tells g.D.Disk.seen g.D.Disk.moment g.D.Disk.since g.D.Disk.images g.D.Disk.faults g.met.D.Disk.reads_an_image g.met.D.Disk.counts_now before round c.args.desk.now.tail c.args.disk.now c.close_round.new.disk some c.in-Err-DiskFault.ensures.sound
+      leaves_failed g.D.Disk g.met.D.Disk.reads_an_image g.met.D.Disk.counts_now before round c.args.desk.now.tail c.args.disk.now c.close_round.new.disk some c.in-Err-DiskFault.ensures.sound
           c.requires.stands c.in-Err-DiskFault.ensures.any_moment
-          (c.in-Err-DiskFault.ensures.fault (ap Err c.in-Err-DiskFault.field-0-is)) c.in-Err-DiskFault.ensures.at_most stood is,
+          (c.in-Err-DiskFault.ensures.cause.cause (ap Err c.in-Err-DiskFault.field-0-is)) c.in-Err-DiskFault.ensures.at_most stood is,
     )
 
 pub returns-clause-err : goal.returns-clause-err
@@ -60,7 +60,7 @@ returns-clause-err g c stood is =
     let no_room = c.in-Err-Full.ensures.no_room c.in-Err-Full.field-0-0 c.in-Err-Full.field-0-1 (ap Err c.in-Err-Full.field-0-is) in (
       unfit_after stood unfit,
       lost_for_room stood round _ _ c.args.round.text.items c.write_last-in-Err-Full.result c.journal_full_reply.result.now full.0 (c.journal_full_reply.ensures (origin_of (now stood))) c.write_last-in-Err-Full.ensures.end,
-      subst (λ disk. Leaves g.D.Disk.tells g.D.Disk.seen g.D.Disk.moment g.D.Disk.since g.D.Disk.images g.D.Disk.faults stood (unfit_after stood unfit) c.args.disk.now disk) (sym full.4)
-          (leaves_unfit g.D.Disk.tells g.D.Disk.seen g.D.Disk.moment g.D.Disk.since g.D.Disk.images g.D.Disk.faults g.met.D.Disk.only_now before stood unfit c.args.disk.now is c.requires.sound
+      subst (λ disk. Leaves g.D.Disk stood (unfit_after stood unfit) c.args.disk.now disk) (sym full.4)
+          (leaves_unfit g.D.Disk g.met.D.Disk.only_now before stood unfit c.args.disk.now is c.requires.sound
           (λ differs told. lacks_room before stood round _ is (subst (λ (bytes : List ℕ). LacksRoom before (history_in c.args.round.batch) bytes) (ap g.D.Disk.seen full.4) (no_room told)))),
     )

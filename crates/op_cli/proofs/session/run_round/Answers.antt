@@ -21,8 +21,8 @@ returns-in-Some-clause-ok g c =
       whole ∙ ap (λ (h : List Entry). h ++ batch.entries) (begun ∙ sym is),
       (
         answered.0,
-        handles_from g.F.FeeTerms.allows (history_at c.args.desk.now) batch.begun batch.entries stood c.args.answer c.args.task.now c.args.word.now answered.0 is begun answered.1,
-        subst (λ (text : List ℕ). Appends (g.K.Sink.written c.args.sink.now) (g.K.Sink.written c.end_round.new.sink) text) answered.2 told,
+        handles_from g.F.FeeTerms.allows (history_at c.args.desk.now) batch.begun batch.entries stood c.args.asked.now.answer c.args.task.now c.args.asked.now.word answered.0 is begun answered.1,
+        subst (λ (text : List ℕ). Appends (g.K.Sink.written c.args.outside.now.sink) (g.K.Sink.written c.end_round.new.sink) text) answered.2 told,
       ),
       leaves stood (is ∙ sym begun),
     ))
@@ -37,13 +37,13 @@ returns-in-Some-clause-err g c =
     (λ end failing stood is.
     let failed = failing stood (is ∙ sym begun) in (
       failed.0,
-      not_handled g.F.FeeTerms.allows stood _ _ c.args.answer c.args.word.now batch.entries c.args.task.now answered.0 end failed.0
-          (handles_from g.F.FeeTerms.allows (history_at c.args.desk.now) batch.begun batch.entries stood c.args.answer c.args.task.now c.args.word.now answered.0 is begun answered.1)
-          (subst (λ (text : List ℕ). NotStood stood batch.entries (g.K.Sink.written c.args.sink.now) (g.K.Sink.written c.end_round.new.sink) text end failed.0) answered.2 failed.1),
+      not_handled g.F.FeeTerms.allows stood _ _ c.args.asked.now.answer c.args.asked.now.word batch.entries c.args.task.now answered.0 end failed.0
+          (handles_from g.F.FeeTerms.allows (history_at c.args.desk.now) batch.begun batch.entries stood c.args.asked.now.answer c.args.task.now c.args.asked.now.word answered.0 is begun answered.1)
+          (subst (λ (text : List ℕ). NotStood stood batch.entries (g.K.Sink.written c.args.outside.now.sink) (g.K.Sink.written c.end_round.new.sink) text end failed.0) answered.2 failed.1),
       failed.2,
     ))
     c.end_round.ensures.err
 
 pub returns-in-None-clause-err : goal.returns-in-None-clause-err
 returns-in-None-clause-err g c stood is =
-    (settled stood, (keeps_same _, refl), leaves_same g.D.Disk.tells g.D.Disk.seen g.D.Disk.moment g.D.Disk.since g.D.Disk.images g.D.Disk.faults g.met.D.Disk.only_now (history_at c.args.desk.now) c.args.disk.now c.requires.sound stood is)
+    (settled stood, (keeps_same _, refl), leaves_same g.D.Disk g.met.D.Disk.only_now (history_at c.args.desk.now) c.args.outside.now.disk c.requires.sound stood is)

@@ -13,23 +13,23 @@ use Rattle.op_cli.proofs.session.session.Goals as goal
 
 pub returns-in_default-clause-session : goal.returns-in_default-clause-session
 returns-in_default-clause-session g c =
-    let world = world_of g.S.Source.left g.C.Clock.answers g.W.Words.words g.K.Sink.written g.V.Verifier.accepts c.args.outside.now in
+    let world = world_of g.S.Source g.C.Clock g.W.Words g.K.Sink g.V.Verifier c.args.outside.now in
     let first = history_at c.args.desk in (
       settled (opened_with first),
       no_table g.F.FeeTerms.allows first world,
-      kept_first g.D.Disk.tells g.D.Disk.seen g.D.Disk.moment g.D.Disk.since g.D.Disk.images g.D.Disk.faults g.met.D.Disk.only_now first c.args.outside.now.disk c.requires.sound,
+      kept_first g.D.Disk g.met.D.Disk.only_now first c.args.outside.now.disk c.requires.sound,
     )
 
 pub loop-answered-init : goal.loop-answered-init
 loop-answered-init g c =
-    let world = world_of g.S.Source.left g.C.Clock.answers g.W.Words.words g.K.Sink.written g.V.Verifier.accepts c.args.outside.now in
+    let world = world_of g.S.Source g.C.Clock g.W.Words g.K.Sink g.V.Verifier c.args.outside.now in
     let first = history_at c.args.desk in (
       opened_with first,
       record {
         stands = now_opened first;
         goes_on = λ after end final session.
             subst (λ (standing : Standing). Session g.F.FeeTerms.allows standing after end final) (ap (λ (held : Held). here (opened_with first) held world 0) c.new-reader.ensures ∙ begins_fresh first world) session;
-        kept = kept_first g.D.Disk.tells g.D.Disk.seen g.D.Disk.moment g.D.Disk.since g.D.Disk.images g.D.Disk.faults g.met.D.Disk.only_now first c.args.outside.now.disk c.requires.sound;
+        kept = kept_first g.D.Disk g.met.D.Disk.only_now first c.args.outside.now.disk c.requires.sound;
         ready = c.requires.ready;
         at = omega (arith, ap (λ (held : Held). held.at) c.new-reader.ensures);
         read_kept = refl;
@@ -55,14 +55,14 @@ loop-answered-preserved g c =
         goes_on = λ after end final rest.
             let step = turned.2 n c.loop-answered-test.true in
             inv.goes_on after end final (one_more _ _ _ step.0 after end final step.1 rest);
-        kept = kept_more g.D.Disk.tells g.D.Disk.seen g.D.Disk.moment g.D.Disk.since g.D.Disk.images g.D.Disk.faults g.met.D.Disk.only_now (history_at c.args.desk) stood (settled (with_entries stood turned.0)) c.args.outside.now.disk c.loop-answered.outside.disk c.turn.new.outside.disk
+        kept = kept_more g.D.Disk g.met.D.Disk.only_now (history_at c.args.desk) stood (settled (with_entries stood turned.0)) c.args.outside.now.disk c.loop-answered.outside.disk c.turn.new.outside.disk
             inv.kept inv.disk_kept turned.3;
         ready = c.in-Ok-turn.ensures.ready;
         at = omega (arith, moved, inv.at);
-        read_kept = c.in-Ok-turn.ensures.read_kept (λ e. cc) ∙ inv.read_kept;
-        disk_kept = c.in-Ok-turn.ensures.disk_kept (λ e. cc) (λ e. cc) ∙ inv.disk_kept;
-        write_kept = c.in-Ok-turn.ensures.write_kept (λ e. cc) ∙ inv.write_kept;
-        draw_kept = c.in-Ok-turn.ensures.draw_kept (λ e. cc) ∙ inv.draw_kept;
+        read_kept = c.in-Ok-turn.ensures.causes.read.kept (λ e. cc) ∙ inv.read_kept;
+        disk_kept = c.in-Ok-turn.ensures.causes.round.disk_kept (λ e. cc) (λ e. cc) ∙ inv.disk_kept;
+        write_kept = c.in-Ok-turn.ensures.causes.round.write.kept (λ e. cc) ∙ inv.write_kept;
+        draw_kept = c.in-Ok-turn.ensures.causes.draw.kept (λ e. cc) ∙ inv.draw_kept;
       },
     )
 
@@ -73,7 +73,7 @@ returns-in-Err-clause-session g c =
     let ended = c.in-Err.ensures.err stood inv.stands in (
       ended.0,
       inv.goes_on _ _ _ (at_once _ _ _ _ ended.0 (ended.1 c.loop-answered._answered c.loop-answered-test.true)),
-      kept_more g.D.Disk.tells g.D.Disk.seen g.D.Disk.moment g.D.Disk.since g.D.Disk.images g.D.Disk.faults g.met.D.Disk.only_now (history_at c.args.desk) stood ended.0 c.args.outside.now.disk c.loop-answered.outside.disk c.turn.new.outside.disk
+      kept_more g.D.Disk g.met.D.Disk.only_now (history_at c.args.desk) stood ended.0 c.args.outside.now.disk c.loop-answered.outside.disk c.turn.new.outside.disk
           inv.kept inv.disk_kept ended.2,
     )
 

@@ -11,12 +11,12 @@ use Rattle.op_cli.proofs.session.session.Given as goal
 -- what a session from here would be, is one from the beginning
 abbrev pub invariant-loop-answered : goal.invariant-loop-answered
 invariant-loop-answered g l =
-    let world = world_of g.S.Source.left g.C.Clock.answers g.W.Words.words g.K.Sink.written g.V.Verifier.accepts in
+    let world = world_of g.S.Source g.C.Clock g.W.Words g.K.Sink g.V.Verifier in
     (stood : Stood) × record {
       stands : now stood ≡ history_at l.desk;
       goes_on : (after : World) (end : End) (final : Final) → Session g.F.FeeTerms.allows (here stood l.reader (world l.outside) l._answered) after end final → Session g.F.FeeTerms.allows (begun (history_at l.fn.desk) (world l.fn.outside)) after end final;
-      kept : Kept g.D.Disk.tells g.D.Disk.seen g.D.Disk.moment g.D.Disk.since g.D.Disk.images g.D.Disk.faults (history_at l.fn.desk) (settled stood) l.fn.outside.disk l.outside.disk;
-      ready : IsReady g.D.Disk.tells l.desk (g.D.Disk.seen l.outside.disk) (g.D.Disk.images l.outside.disk);
+      kept : Kept g.D.Disk (history_at l.fn.desk) (settled stood) l.fn.outside.disk l.outside.disk;
+      ready : IsReady g.D.Disk l.desk l.outside.disk;
       at : l.reader.at ≤ l._answered * 81920;
       read_kept : g.S.Source.faults l.outside.source ≡ g.S.Source.faults l.fn.outside.source;
       disk_kept : g.D.Disk.faults l.outside.disk ≡ g.D.Disk.faults l.fn.outside.disk;

@@ -12,13 +12,12 @@ returns-in_err-sync-clause-any_moment g c told payloads holds =
     let whole = c.requires.body in
     let room : c.args.tail + length body < limit = omega (arith, c.requires.room) in
     let P = SpellsEither payloads c.args.tail body in
-    let moment = g.D.Disk.moment in
-    let since = g.D.Disk.since in
+    let disk = g.D.Disk in
     let old = c.args.disk.now in
-    let start = started moment since old P (λ x left. at_start c.args.tail _ _ settled body whole payloads holds room x (g.met.D.Disk.only_now old x left)) in
+    let start = started disk old P (λ x left. at_start c.args.tail _ _ settled body whole payloads holds room x (g.met.D.Disk.only_now old x left)) in
     let first = staging c.args.tail _ _ settled body whole payloads holds room _ _ c.write_at.ensures.crash in
-    let written = goes_on moment since old old c.write_at.new.self P _ start c.write_at.ensures.time first in
-    goes_on moment since old c.write_at.new.self c.sync.new.self P _ written c.sync.ensures.time (λ x now. first x (c.sync.ensures.crash x now))
+    let written = goes_on disk old old c.write_at.new.self P _ start c.write_at.ensures.time first in
+    goes_on disk old c.write_at.new.self c.sync.new.self P _ written c.sync.ensures.time (λ x now. first x (c.sync.ensures.crash x now))
 
 pub returns-in_err-write_at-2-clause-any_moment : goal.returns-in_err-write_at-2-clause-any_moment
 returns-in_err-write_at-2-clause-any_moment g c told payloads holds =
@@ -27,16 +26,15 @@ returns-in_err-write_at-2-clause-any_moment g c told payloads holds =
     let whole = c.requires.body in
     let room : c.args.tail + length body < limit = omega (arith, c.requires.room) in
     let P = SpellsEither payloads c.args.tail body in
-    let moment = g.D.Disk.moment in
-    let since = g.D.Disk.since in
+    let disk = g.D.Disk in
     let old = c.args.disk.now in
-    let start = started moment since old P (λ x left. at_start c.args.tail _ _ settled body whole payloads holds room x (g.met.D.Disk.only_now old x left)) in
+    let start = started disk old P (λ x left. at_start c.args.tail _ _ settled body whole payloads holds room x (g.met.D.Disk.only_now old x left)) in
     let first = staging c.args.tail _ _ settled body whole payloads holds room _ _ c.write_at.ensures.crash in
-    let written = goes_on moment since old old c.write_at.new.self P _ start c.write_at.ensures.time first in
-    let kept = goes_on moment since old c.write_at.new.self c.sync.new.self P _ written c.sync.ensures.time (λ x now. first x (c.sync.ensures.crash x now)) in
+    let written = goes_on disk old old c.write_at.new.self P _ start c.write_at.ensures.time first in
+    let kept = goes_on disk old c.write_at.new.self c.sync.new.self P _ written c.sync.ensures.time (λ x now. first x (c.sync.ensures.crash x now)) in
     let is = c.in_ok-sync.ensures.seen ∙ c.in_ok-write_at.ensures.written told in
     let second = opening c.args.tail _ _ settled body whole payloads holds room _ _ _ is c.in_ok-sync.ensures.durable c.write_at-2.ensures.crash in
-    goes_on moment since old c.sync.new.self c.write_at-2.new.self P _ kept c.write_at-2.ensures.time second
+    goes_on disk old c.sync.new.self c.write_at-2.new.self P _ kept c.write_at-2.ensures.time second
 
 pub returns-in_err-sync-2-clause-any_moment : goal.returns-in_err-sync-2-clause-any_moment
 returns-in_err-sync-2-clause-any_moment g c told payloads holds =
@@ -45,17 +43,16 @@ returns-in_err-sync-2-clause-any_moment g c told payloads holds =
     let whole = c.requires.body in
     let room : c.args.tail + length body < limit = omega (arith, c.requires.room) in
     let P = SpellsEither payloads c.args.tail body in
-    let moment = g.D.Disk.moment in
-    let since = g.D.Disk.since in
+    let disk = g.D.Disk in
     let old = c.args.disk.now in
-    let start = started moment since old P (λ x left. at_start c.args.tail _ _ settled body whole payloads holds room x (g.met.D.Disk.only_now old x left)) in
+    let start = started disk old P (λ x left. at_start c.args.tail _ _ settled body whole payloads holds room x (g.met.D.Disk.only_now old x left)) in
     let first = staging c.args.tail _ _ settled body whole payloads holds room _ _ c.write_at.ensures.crash in
-    let written = goes_on moment since old old c.write_at.new.self P _ start c.write_at.ensures.time first in
-    let kept = goes_on moment since old c.write_at.new.self c.sync.new.self P _ written c.sync.ensures.time (λ x now. first x (c.sync.ensures.crash x now)) in
+    let written = goes_on disk old old c.write_at.new.self P _ start c.write_at.ensures.time first in
+    let kept = goes_on disk old c.write_at.new.self c.sync.new.self P _ written c.sync.ensures.time (λ x now. first x (c.sync.ensures.crash x now)) in
     let is = c.in_ok-sync.ensures.seen ∙ c.in_ok-write_at.ensures.written told in
     let second = opening c.args.tail _ _ settled body whole payloads holds room _ _ _ is c.in_ok-sync.ensures.durable c.write_at-2.ensures.crash in
-    let gated = goes_on moment since old c.sync.new.self c.write_at-2.new.self P _ kept c.write_at-2.ensures.time second in
-    goes_on moment since old c.write_at-2.new.self c.sync-2.new.self P _ gated c.sync-2.ensures.time (λ x now. second x (c.sync-2.ensures.crash x now))
+    let gated = goes_on disk old c.sync.new.self c.write_at-2.new.self P _ kept c.write_at-2.ensures.time second in
+    goes_on disk old c.write_at-2.new.self c.sync-2.new.self P _ gated c.sync-2.ensures.time (λ x now. second x (c.sync-2.ensures.crash x now))
 
 pub returns-clause-any_moment : goal.returns-clause-any_moment
 returns-clause-any_moment g c told payloads holds =
@@ -64,17 +61,16 @@ returns-clause-any_moment g c told payloads holds =
     let whole = c.requires.body in
     let room : c.args.tail + length body < limit = omega (arith, c.requires.room) in
     let P = SpellsEither payloads c.args.tail body in
-    let moment = g.D.Disk.moment in
-    let since = g.D.Disk.since in
+    let disk = g.D.Disk in
     let old = c.args.disk.now in
-    let start = started moment since old P (λ x left. at_start c.args.tail _ _ settled body whole payloads holds room x (g.met.D.Disk.only_now old x left)) in
+    let start = started disk old P (λ x left. at_start c.args.tail _ _ settled body whole payloads holds room x (g.met.D.Disk.only_now old x left)) in
     let first = staging c.args.tail _ _ settled body whole payloads holds room _ _ c.write_at.ensures.crash in
-    let written = goes_on moment since old old c.write_at.new.self P _ start c.write_at.ensures.time first in
-    let kept = goes_on moment since old c.write_at.new.self c.sync.new.self P _ written c.sync.ensures.time (λ x now. first x (c.sync.ensures.crash x now)) in
+    let written = goes_on disk old old c.write_at.new.self P _ start c.write_at.ensures.time first in
+    let kept = goes_on disk old c.write_at.new.self c.sync.new.self P _ written c.sync.ensures.time (λ x now. first x (c.sync.ensures.crash x now)) in
     let is = c.in_ok-sync.ensures.seen ∙ c.in_ok-write_at.ensures.written told in
     let second = opening c.args.tail _ _ settled body whole payloads holds room _ _ _ is c.in_ok-sync.ensures.durable c.write_at-2.ensures.crash in
-    let gated = goes_on moment since old c.sync.new.self c.write_at-2.new.self P _ kept c.write_at-2.ensures.time second in
-    goes_on moment since old c.write_at-2.new.self c.sync-2.new.self P _ gated c.sync-2.ensures.time (λ x now. second x (c.sync-2.ensures.crash x now))
+    let gated = goes_on disk old c.sync.new.self c.write_at-2.new.self P _ kept c.write_at-2.ensures.time second in
+    goes_on disk old c.write_at-2.new.self c.sync-2.new.self P _ gated c.sync-2.ensures.time (λ x now. second x (c.sync-2.ensures.crash x now))
 
 pub returns-clause-spells : goal.returns-clause-spells
 returns-clause-spells g c told payloads holds =

@@ -17,7 +17,7 @@ returns-in_err-commit-clause-any_moment g c told rounds stands =
     let body = c.body.result.now in
     let some : b.entries ≢ [] = λ none. let no = r.empty.1 none in cc (no, c.if-not-round.false) in
     let is = subst (λ (l : List ℕ). IsRound l b.entries) (sym c.body.ensures.payload) (r.round c.if-not-round.false) in
-    moments_more g.D.Disk.moment g.D.Disk.since c.args.disk.now c.commit.new.disk rounds b.entries here.payloads body c.self.inside.journal.tail some here.are is only
+    moments_more g.D.Disk c.args.disk.now c.commit.new.disk rounds b.entries here.payloads body c.self.inside.journal.tail some here.are is only
 
 pub returns-in_err-commit-clause-no_room : goal.returns-in_err-commit-clause-no_room
 returns-in_err-commit-clause-no_room g c tail need is told =
@@ -43,7 +43,7 @@ returns-clause-any_moment g c told rounds stands =
     let body = c.body.result.now in
     let some : b.entries ≢ [] = λ none. let no = r.empty.1 none in cc (no, c.if-not-round.false) in
     let is = subst (λ (l : List ℕ). IsRound l b.entries) (sym c.body.ensures.payload) (r.round c.if-not-round.false) in
-    moments_more g.D.Disk.moment g.D.Disk.since c.args.disk.now c.commit.new.disk rounds b.entries here.payloads body c.self.inside.journal.tail some here.are is only
+    moments_more g.D.Disk c.args.disk.now c.commit.new.disk rounds b.entries here.payloads body c.self.inside.journal.tail some here.are is only
 
 pub returns-clause-stands : goal.returns-clause-stands
 returns-clause-stands g c told rounds stands =
@@ -72,4 +72,4 @@ returns-then-not-round-clause-images g c told rounds stands x image =
 
 pub returns-then-not-round-clause-any_moment : goal.returns-then-not-round-clause-any_moment
 returns-then-not-round-clause-any_moment g c told rounds stands =
-    moments_none g.D.Disk.moment g.D.Disk.since g.D.Disk.seen g.D.Disk.images g.met.D.Disk.only_now c.args.disk.now rounds c.args.batch.entries c.args.self.now.tail stands
+    moments_none g.D.Disk g.met.D.Disk.only_now c.args.disk.now rounds c.args.batch.entries c.args.self.now.tail stands

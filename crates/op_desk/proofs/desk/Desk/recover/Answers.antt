@@ -31,7 +31,7 @@ loop-frame-init g c =
       counted = omega arith;
       sound = c.in-Ok-new.ensures.sound;
       last = inl empty;
-      faults = e.cause (λ bad. cc);
+      faults = e.cause.kept (λ bad. cc);
       read = λ told. record {
         opened = e.opened told;
         found = e.found told;
@@ -85,7 +85,7 @@ returns-in-Err-next_frame-clause-any_moment g c told =
     let inv = c.loop-frame.invariant in
     let first = c.args.disk.now in
     let seen = g.D.Disk.seen c.loop-frame.disk in
-    then g.D.Disk.moment g.D.Disk.since first c.loop-frame.disk c.next_frame.new.disk (IsOldOrShort (g.D.Disk.images first) (g.D.Disk.seen first)) (λ x. x ≡ seen) (inv.any_moment told) (c.next_frame.ensures.any_moment told)
+    then g.D.Disk first c.loop-frame.disk c.next_frame.new.disk (IsOldOrShort (g.D.Disk.images first) (g.D.Disk.seen first)) (λ x. x ≡ seen) (inv.any_moment told) (c.next_frame.ensures.any_moment told)
     (λ x is. read_is_old (g.D.Disk.seen first) seen x (g.D.Disk.images first) (inv.read told).opened (g.met.D.Disk.reads_an_image first told) is)
 
 pub returns-in-Err-next_frame-clause-cause : goal.returns-in-Err-next_frame-clause-cause
@@ -183,7 +183,7 @@ returns-in-Err-load_payload-clause-any_moment g c told =
     let inv = c.loop-frame.invariant in
     let first = c.args.disk.now in
     let seen = g.D.Disk.seen c.loop-frame.disk in
-    then g.D.Disk.moment g.D.Disk.since first c.loop-frame.disk c.next_frame.new.disk (IsOldOrShort (g.D.Disk.images first) (g.D.Disk.seen first)) (λ x. x ≡ seen) (inv.any_moment told) (c.next_frame.ensures.any_moment told)
+    then g.D.Disk first c.loop-frame.disk c.next_frame.new.disk (IsOldOrShort (g.D.Disk.images first) (g.D.Disk.seen first)) (λ x. x ≡ seen) (inv.any_moment told) (c.next_frame.ensures.any_moment told)
     (λ x is. read_is_old (g.D.Disk.seen first) seen x (g.D.Disk.images first) (inv.read told).opened (g.met.D.Disk.reads_an_image first told) is)
 
 -- ---- one frame more
@@ -205,7 +205,7 @@ loop-frame-preserved g c =
       counted = omega (arith, inv.counted, next);
       sound = round.sound;
       last = c.in-Ok-load_payload.ensures.last;
-      faults = e.cause (λ bad. cc) ∙ inv.faults;
+      faults = e.cause.kept (λ bad. cc) ∙ inv.faults;
       read = λ told.
           read_more old seen (g.D.Disk.seen c.next_frame.new.disk) (g.D.Disk.images c.loop-frame.disk) (g.D.Disk.images c.next_frame.new.disk) c.loop-frame.recovery.length c.next_frame.new.self.length c.loop-frame.gate (c.loop-frame.gate + (5 + c.len.result))
           c.loop-frame.wallet.history c.load_payload.new.wallet.history payload (inv.read told) e.seen (e.found told)
@@ -215,7 +215,7 @@ loop-frame-preserved g c =
       calls = λ told. omega (arith, inv.calls told, e.calls yes);
       past = λ told. omega (arith, inv.past told, (e.any_moment told).later);
       any_moment = λ told.
-          then g.D.Disk.moment g.D.Disk.since first c.loop-frame.disk c.next_frame.new.disk (IsOldOrShort (g.D.Disk.images first) old) (λ x. x ≡ seen) (inv.any_moment told) (e.any_moment told) (λ x is. read_is_old old seen x (g.D.Disk.images first) (inv.read told).opened (g.met.D.Disk.reads_an_image first told) is);
+          then g.D.Disk first c.loop-frame.disk c.next_frame.new.disk (IsOldOrShort (g.D.Disk.images first) old) (λ x. x ≡ seen) (inv.any_moment told) (e.any_moment told) (λ x is. read_is_old old seen x (g.D.Disk.images first) (inv.read told).opened (g.met.D.Disk.reads_an_image first told) is);
       synced = λ told x left.
           ⊎_elim (λ was. inv.synced told x was) (λ is. read_is_old old seen x (λ d. d ≡ old) (inv.read told).opened refl is) ((e.any_moment told).before (g.D.Disk.moment first + 1) x (omega (arith, inv.past told)) left);
     }

@@ -1,5 +1,5 @@
 use Rattle.std.proofs.Common.{◌≡◌, ◌+◌, ◌*◌, ◌<◌, ◌≤◌, ℕ, List, length, IsTrue, nat_le, if◌then◌else◌}
-use Rattle.op_disk.specs.Calls.{LeavesOnly}
+use Rattle.op_disk.specs.Moments.{LeavesOnly}
 use Rattle.op_journal.specs.Recovered.{IsOldOrShort}
 use Rattle.op_desk.specs.Wallets.{IsSound, IsAtLast}
 use Rattle.op_desk.proofs.Recovering.{HasRead}
@@ -16,6 +16,6 @@ invariant-loop-frame g l = record {
   frames : (told : IsTrue g.D.Disk.tells) → length (read told).rounds ≡ l._frame;
   calls : IsTrue g.D.Disk.tells → g.D.Disk.moment l.disk ≡ g.D.Disk.moment l.fn.disk + ((if nat_le (length (g.D.Disk.seen l.fn.disk)) 9 then 4 else 3) + 3 * l._frame);
   past : IsTrue g.D.Disk.tells → g.D.Disk.moment l.fn.disk + 1 < g.D.Disk.moment l.disk;
-  any_moment : IsTrue g.D.Disk.tells → LeavesOnly g.D.Disk.moment g.D.Disk.since l.fn.disk l.disk (IsOldOrShort (g.D.Disk.images l.fn.disk) (g.D.Disk.seen l.fn.disk));
+  any_moment : IsTrue g.D.Disk.tells → LeavesOnly g.D.Disk l.fn.disk l.disk (IsOldOrShort (g.D.Disk.images l.fn.disk) (g.D.Disk.seen l.fn.disk));
   synced : IsTrue g.D.Disk.tells → (c : List ℕ) → g.D.Disk.since l.disk (g.D.Disk.moment l.fn.disk + 1) c → IsOldOrShort (λ d. d ≡ g.D.Disk.seen l.fn.disk) (g.D.Disk.seen l.fn.disk) c;
 }
