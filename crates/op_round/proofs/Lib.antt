@@ -1,0 +1,6 @@
+mod Rounds
+mod Keeping
+mod SoFar
+mod Acting
+mod Asking
+mod InTurn
