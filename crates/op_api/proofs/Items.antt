@@ -7,7 +7,6 @@ use Rattle.op_names.specs.declared.AddressName.{AddressName}
 use Rattle.serde_json.specs.Data.{Data}
 use Rattle.op_model.specs.GrantMembers.{actions_in, identifier_in, limits_in, item_with, item_of_kind}
 use Rattle.op_model.specs.Legal.{has_actions, are_limits, passes}
-use Rattle.op_model.specs.declared.request.AskedItem.{AskedItem}
 use Rattle.op_model.specs.declared.request.AskedLimits.{AskedLimits}
 use Rattle.op_api.proofs.ValueForms.{are_limits_in}
 use Rattle.op_api.proofs.Yields.{Yields, some_same, yields_optional}

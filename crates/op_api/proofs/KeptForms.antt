@@ -1,6 +1,6 @@
 -- A request that is meant keeps its forms.
 use Rattle.std.proofs.Common.{◌≡◌, ℕ, ◌-◌, ◌+◌, ◌*◌, Bool, true, false, List, [], ◌∷◌, Some, None, Ok, Err, length, refl, subst}
-use Rattle.std.specs.Prelude.{⊤, ◌&&◌, nat_le, codes, if◌then◌else◌, option_and_then, option_map, ok_or}
+use Rattle.std.specs.Prelude.{◌&&◌, nat_le, codes, if◌then◌else◌, option_and_then, option_map, ok_or}
 use Rattle.std.specs.List.{slice_index}
 use Rattle.std.specs.Option.{is_none, is_some, option_map_or}
 use Rattle.std.specs.Result.{result_ok}
@@ -10,14 +10,13 @@ use Rattle.std.specs.declared.result.Result.{Result}
 use Rattle.op_amount.specs.Code.{is_asset_code}
 use Rattle.op_amount.specs.declared.Amount.{Amount}
 use Rattle.op_amount.specs.Values.{value_of}
-use Rattle.op_amount.specs.declared.TheConstants.{RATE_TOP}
 use Rattle.op_names.specs.Forms.{is_client, is_finish_uri, is_origin, is_path, is_word}
 use Rattle.op_names.specs.Names.{address_in}
 use Rattle.op_names.specs.declared.AddressName.{AddressName}
 use Rattle.op_names.specs.declared.Kind.{Kind}
 use Rattle.op_names.specs.declared.Kind.TheVariants as kinds
 use Rattle.op_time.specs.Calendar.{epoch, day_milliseconds}
-use Rattle.op_time.specs.MomentTexts.{moment_at, moment_in, moment_of, moment_with, has_shape, clock_of, fraction_of, zone_of, day_in, time_in, offset_in, in_utc, milliseconds_of}
+use Rattle.op_time.specs.MomentTexts.{moment_at, moment_of, moment_with, has_shape, clock_of, fraction_of, zone_of, day_in, time_in, offset_in, in_utc, milliseconds_of}
 use Rattle.op_time.specs.declared.TheConstants.{LAST}
 use Rattle.op_time.specs.declared.moments.MomentFault.{MomentFault}
 use Rattle.op_time.specs.declared.moments.MomentFault.TheVariants as moments
@@ -26,22 +25,19 @@ use Rattle.serde_json.specs.Find.{as_str, get}
 use Rattle.serde_json.specs.Written.{compact_text}
 use Rattle.op_model.specs.Asking.{◌>>=◌, refuse_if}
 use Rattle.op_model.specs.GrantMembers.{ask_grant_members, client_in, client_limit, continue_grant_meant, continue_grant_members, finish_of, finish_with, grant_refused, interact_in, interact_of, interact_with, starts_in}
-use Rattle.op_model.specs.Json.{if_object, number_of, object_in, optional_in, or_bad, text_in, with_members}
+use Rattle.op_model.specs.Json.{if_object, number_of, optional_in, or_bad, text_in, with_members}
 use Rattle.op_model.specs.Legal.{are_items, is_amount, is_asset, is_first, is_interact, is_finish, is_payment_asked, is_quote_asked, is_rate_number, is_text, keeps_forms, name_limit, nonce_limit, passes, transfer_limit}
 use Rattle.op_model.specs.Meant.{asked_of, meant}
-use Rattle.op_model.specs.Members.{account_of, add_address_members, add_asset_members, amount_of, asset_of, code_in, make_incoming_members, make_outgoing_members, make_quote_members, member_of, metadata_of, if_metadata, moment_text_of, optional_of, payment_asked, pieces_in, quote_mode, rate_number, scale_in, set_origin_members, set_rate_members, text_if, transfer_members}
+use Rattle.op_model.specs.Members.{account_of, add_address_members, add_asset_members, amount_of, asset_of, code_in, make_incoming_members, make_outgoing_members, make_quote_members, member_of, metadata_of, moment_text_of, optional_of, payment_asked, pieces_in, quote_mode, rate_number, scale_in, set_origin_members, set_rate_members, text_if, transfer_members}
 use Rattle.op_model.specs.Metadata.{if_plain_object, is_metadata, is_page}
 use Rattle.op_model.specs.Parameters.{digits_within, if_page, list_parameters, number_named, optional_parameter, parameter, read_feed_parameters, text_parameter}
 use Rattle.op_model.specs.Requests.{Raw}
 use Rattle.op_model.specs.RouteTable.{Route, route_of}
 use Rattle.op_model.specs.declared.grant.Finish.{Finish}
-use Rattle.op_model.specs.declared.grant.Interact.{Interact}
 use Rattle.op_model.specs.declared.grant.Interact.TheVariants.{Missing}
 use Rattle.op_model.specs.declared.reply.Refusal.{Refusal}
 use Rattle.op_model.specs.declared.reply.Refusal.TheVariants.{BadField}
 use Rattle.op_model.specs.declared.request.AccountName.{AccountName}
-use Rattle.op_model.specs.declared.request.PaymentAsked.{PaymentAsked}
-use Rattle.op_model.specs.declared.request.QuoteAsked.{QuoteAsked}
 use Rattle.op_model.specs.declared.request.Request.{Request}
 use Rattle.op_model.specs.declared.request.Request.TheVariants as requests
 use Rattle.op_model.specs.declared.route.Route.TheVariants as routes

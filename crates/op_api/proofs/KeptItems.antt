@@ -1,9 +1,9 @@
 -- The items of a grant request keep their forms, and stand in ascending order.
 use Rattle.std.proofs.Common.{◌≡◌, ℕ, Bool, true, false, List, [], ◌∷◌, Some, None, length, refl}
-use Rattle.std.specs.Prelude.{⊤, ◌&&◌, ◌==◌, nat_le, codes, if◌then◌else◌, option_and_then}
+use Rattle.std.specs.Prelude.{◌&&◌, ◌==◌, nat_le, codes, if◌then◌else◌, option_and_then}
 use Rattle.std.specs.List.{find, list_all}
 use Rattle.std.specs.declared.option.Option.{Option}
-use Rattle.std.proofs.lemmas.Bool.{and_parts, cases_Bool, eqb-true}
+use Rattle.std.proofs.lemmas.Bool.{and_parts, eqb-true}
 use Rattle.serde_json.specs.Data.{Data}
 use Rattle.op_model.specs.GrantMembers.{access_in, actions_in, identifier_in, if_distinct, if_item, item_with, limits_in, item_in, item_of_kind, items_by_kind, kind_in}
 use Rattle.op_model.specs.Json.{each_of, if_object, list_in, text_in, with_each}

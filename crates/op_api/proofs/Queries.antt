@@ -1,5 +1,5 @@
 -- The first parameter of a name.
-use Rattle.std.proofs.Common.{◌≡◌, ℕ, List, Some, None, IsUtf8, bytes_eq, refl, sym, ap, inl, inr}
+use Rattle.std.proofs.Common.{◌≡◌, ℕ, List, Some, None, IsUtf8, bytes_eq, refl, inl, inr}
 use Rattle.std.specs.Prelude.{map, option_map}
 use Rattle.std.specs.List.{find}
 use Rattle.std.specs.Str.{is_utf8}

@@ -1,22 +1,20 @@
 -- Texts that are interaction references.
-use Rattle.std.proofs.Common.{◌≡◌, ◌<◌, ℕ, suc, ◌^◌, ◌-◌, Bool, true, false, List, [], length, take, drop, Some, None, Ok, Err, refl, sym, ap, ◌∙◌, inl, inr, arith, length-drop}
+use Rattle.std.proofs.Common.{◌≡◌, ◌<◌, ℕ, suc, ◌^◌, ◌-◌, true, false, List, [], length, take, drop, Some, None, Ok, Err, refl, sym, ap, ◌∙◌, inl, inr, length-drop}
 use Rattle.std.specs.Prelude.{◌==◌, nat_lt, ◌&&◌, unwrap_or, if◌then◌else◌}
 use Rattle.std.specs.Fmt.{decimal}
 use Rattle.std.specs.Result.{result_ok}
 use Rattle.std.specs.Str.{bytes_eq}
 use Rattle.std.specs.Str.Parse.{digits_value}
-use Rattle.std.specs.declared.option.Option.{Option}
 use Rattle.std.specs.declared.result.Result.{Result}
 use Rattle.std.proofs.lemmas.Bool.{and_parts, cases_Bool}
 use Rattle.std.proofs.lemmas.Bool.{eqb-true, le-leb, leb-true}
 use Rattle.std.proofs.lemmas.Fmt.{digits_value-decimal}
 use Rattle.std.proofs.lemmas.Slice.Eq.{bytes_eq-Decides}
-use Rattle.hex.specs.Hex.{decode_of, encode_lower, IsBytes}
+use Rattle.hex.specs.Hex.{decode_of}
 use Rattle.hex.specs.declared.error.FromHexError.{FromHexError}
 use Rattle.hex.proofs.HexLemmas.{decode_of-encode_lower, decode_of-ok}
 use Rattle.op_names.specs.Secrets.{secret_text, IsDrawn, ReadsSecret}
-use Rattle.op_names.specs.declared.Letter.{Letter}
-use Rattle.op_names.specs.declared.Letter.TheVariants.{Access, Continuation, Nonce, Interaction}
+use Rattle.op_names.specs.declared.Letter.TheVariants.{Interaction}
 use Rattle.op_names.proofs.Rooms.{take_all}
 use Rattle.op_names.proofs.SecretTexts.{word_part, place_part}
 use Rattle.op_model.specs.GrantMembers.{is_reference, word_spelled, place_spelled}

@@ -17,11 +17,10 @@ use Rattle.op_names.specs.declared.Kind.TheVariants.{Incoming}
 use Rattle.serde_json.specs.Data.{Data}
 use Rattle.serde_json.specs.Find.{as_str, as_number, as_u64, get}
 use Rattle.op_model.specs.Json.{text_in, if_object, number_of}
-use Rattle.op_model.specs.Legal.{is_amount, is_asset, is_value, is_interval, is_rate_number, are_limits, passes}
-use Rattle.op_model.specs.Members.{code_in, scale_in, asset_of, amount_of, rate_number, optional_of, member_of}
+use Rattle.op_model.specs.Legal.{is_amount, is_asset, is_value, is_interval, are_limits, passes}
+use Rattle.op_model.specs.Members.{code_in, scale_in, asset_of, amount_of, optional_of}
 use Rattle.op_model.specs.GrantMembers.{cap_with, cap_in, interval_text, limits_of, limits_with, name_in}
 use Rattle.op_model.specs.declared.request.AskedCap.{AskedCap}
-use Rattle.op_model.specs.declared.request.AskedLimits.{AskedLimits}
 use Rattle.op_api.proofs.Yields.{Yields, both, some_same, yields_then, yields_map, yields_if, yields_optional}
 
 abbrev pub Whatever : {X : Type 0} → X → Type 0

@@ -1,7 +1,9 @@
 -- Worked bodies: what their members mean, by computation.
 use Rattle.std.proofs.Common.{◌≡◌, ℕ, List, [], ◌∷◌, codes, Some, None, Ok, Err, refl}
 use Rattle.std.specs.Prelude.{Float}
-use Rattle.serde_json.specs.Data.{Data, Members, null, number, string, array, object, no_items, item, member, no_members, unsigned, negative, float}
+use Rattle.std.specs.Str.Lossy.{utf8_valid_len}
+use Rattle.url.proofs.OnLiterals.{url_on_literals}
+use Rattle.serde_json.specs.Data.{Data, Members, null, number, string, array, object, no_items, item, member, no_members, unsigned, float}
 use Rattle.op_model.specs.GrantMembers.{ask_grant_members, continue_grant_meant, grant_refused}
 use Rattle.op_model.specs.Members.{add_address_members, add_asset_members, make_incoming_members, make_outgoing_members, make_quote_members, set_origin_members, set_rate_members, transfer_members}
 use Rattle.op_model.specs.declared.grant.Interact.TheVariants.{Missing}
@@ -20,6 +22,10 @@ abbrev scaled : ℕ → Members
 scaled scale = member (codes "assetCode") (string (codes "USD")) (member (codes "assetScale") (number (unsigned scale)) no_members)
 
 -- ---- the provider's routes
+
+origin : set_origin_members (object (member (codes "origin") (string (codes "https://wallet.example")) no_members)) ≡ Ok (requests.SetOrigin (codes "https://wallet.example"))
+unfolding url_on_literals
+origin = refl
 
 no_origin : set_origin_members (object no_members) ≡ Err (BadField (codes "origin"))
 no_origin = refl
@@ -43,6 +49,15 @@ scale_is_a_float x = refl
 no_pieces : add_asset_members (object (member (codes "assetCode") (string (codes "USD")) (member (codes "assetScale") (number (unsigned 2)) (member (codes "pieces") (number (unsigned 0)) no_members)))) ≡ Err (BadField (codes "pieces"))
 no_pieces = refl
 
+address : add_address_members (object (member (codes "assetCode") (string (codes "USD")) (member (codes "assetScale") (number (unsigned 2)) (member (codes "path") (string (codes "/alice")) no_members))))
+    ≡ Ok (requests.AddAddress (codes "/alice") (record { code = codes "USD"; scale = 2 }) None)
+address = refl
+
+address_with_a_name : add_address_members (object (member (codes "assetCode") (string (codes "USD")) (member (codes "assetScale") (number (unsigned 2)) (member (codes "path") (string (codes "/alice")) (member (codes "publicName") (string (codes "Alice")) no_members)))))
+    ≡ Ok (requests.AddAddress (codes "/alice") (record { code = codes "USD"; scale = 2 }) (Some (codes "Alice")))
+unfolding url_on_literals utf8_valid_len
+address_with_a_name = refl
+
 reserved_path : add_address_members (object (member (codes "path") (string (codes "/admin")) no_members)) ≡ Err (BadField (codes "path"))
 reserved_path = refl
 
@@ -62,6 +77,13 @@ no_account = refl
 
 leading_zero : transfer_members requests.Deposit (object (member (codes "account") (string (codes "pool")) (member (codes "amount") (dollars (codes "05")) (member (codes "transferId") (string (codes "d1")) no_members)))) ≡ Err (BadField (codes "amount"))
 leading_zero = refl
+
+abbrev euros : Members
+euros = member (codes "assetCode") (string (codes "EUR")) (member (codes "assetScale") (number (unsigned 2)) no_members)
+
+rate : set_rate_members (object (member (codes "den") (string (codes "10")) (member (codes "from") (object (scaled 2)) (member (codes "num") (string (codes "9")) (member (codes "to") (object euros) no_members)))))
+    ≡ Ok (requests.SetRate (record { code = codes "USD"; scale = 2 }) (record { code = codes "EUR"; scale = 2 }) (record { num = 9; den = 10 }))
+rate = refl
 
 rate_of_nothing : set_rate_members (object (member (codes "den") (string (codes "1")) (member (codes "from") (object (scaled 2)) (member (codes "num") (string (codes "0")) (member (codes "to") (object (scaled 2)) no_members))))) ≡ Err (BadField (codes "num"))
 rate_of_nothing = refl

@@ -4,7 +4,6 @@ use Rattle.std.specs.Prelude.{◌&&◌, if◌then◌else◌, option_and_then, op
 use Rattle.std.specs.Option.{option_map_or}
 use Rattle.std.specs.declared.option.Option.{Option}
 use Rattle.std.specs.declared.result.Result.{Result}
-use Rattle.std.proofs.lemmas.Bool.{cases_Bool}
 use Rattle.serde_json.specs.Data.{Data}
 use Rattle.op_model.specs.Asking.{◌>>=◌}
 use Rattle.op_model.specs.Json.{optional_in, or_bad}

@@ -3,6 +3,8 @@
 #![tactic(auto)]
 
 mod access;
+#[cfg(test)]
+mod client_tests;
 mod constant;
 mod grants;
 mod members;

@@ -1,8 +1,7 @@
 //! Names in bodies and parameters: origins, paths, addresses, rows, accounts and words.
 ghost use Rattle.std.specs.Prelude.{◌≡◌, IfOk, codes, option_map};
-ghost use Rattle.std.specs.List.{list_all};
 ghost use Rattle.serde_json.specs.View.{view};
-ghost use Rattle.op_names.specs.Forms.{is_origin, is_path, is_visible, is_word};
+ghost use Rattle.op_names.specs.Forms.{is_origin, is_path, is_word};
 ghost use Rattle.op_names.specs.Names.{address_in, row_in};
 ghost use Rattle.op_model.specs.Members.{account_of, optional_of, text_if};
 ghost use Rattle.op_api.specs.Readers.{IsShaped, public_name_of};
@@ -10,7 +9,7 @@ ghost use Rattle.op_api.specs.Readers.{IsShaped, public_name_of};
 use crate::members::{Read, optional_in, text_in, text_of};
 use op_model::{AccountName, Text};
 use op_names::{
-    AddressName, AddressPath, Kind, NameFault, Origin, RowName, read_address, read_origin,
+    AddressName, AddressPath, Kind, NameFault, Origin, RowName, is_word, read_address, read_origin,
     read_path, read_row,
 };
 use serde_json::Value;
@@ -73,23 +72,6 @@ pub(crate) fn account_of(alloc: Global, text: &str) -> Result<AccountName, Alloc
         "fees" => Ok(AccountName::Fees),
         _ => Ok(AccountName::Address(address_of(alloc, text)?)),
     }
-}
-
-/// Whether each byte is visible ASCII.
-fn all_visible(text: &[u8]) -> bool
-    ensures { result ≡ list_all is_visible text.now }
-{
-    text.iter().all(|b| *b >= 33 && *b <= 126)
-}
-
-/// Whether a text is visible ASCII of at least one byte and at most so many.
-fn is_word(limit: usize, text: &[u8]) -> bool
-    ensures { result ≡ is_word limit text.now }
-{
-    if text.is_empty() || text.len() > limit {
-        return false;
-    }
-    all_visible(text)
 }
 
 /// A member that is a word of at most so many bytes.

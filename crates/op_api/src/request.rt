@@ -22,14 +22,37 @@ use op_model::{Refusal, Request, Text, Verdict};
 use op_names::{AddressPath, Kind};
 use op_ports::Verifier;
 use std::alloc::{AllocError, Global};
+use std::fmt;
+use thiserror::Error;
 
 /// Why a request is not understood.
-#[derive(Drop)]
+#[derive(Drop, Error)]
 pub enum ApiFault {
     /// It is refused: for its path, its method, its parameters or its body.
+    #[error("{}", cause_of(.0))]
     Refused(Refusal),
     /// Memory was wanting while it was read.
+    #[error("out of memory")]
     Memory,
+}
+
+/// Its text alone: what a refusal keeps of the request is not shown.
+impl fmt::Debug for ApiFault {
+    fn fmt<W: fmt::Write>(&self, f: &mut fmt::Formatter<W>) -> fmt::Result {
+        write!(f, "{self}")
+    }
+}
+
+/// Why a request is refused before it is looked at on the history, in a line.
+fn cause_of(refusal: &Refusal) -> &'static str {
+    match refusal {
+        Refusal::NotFound => "no route has the path",
+        Refusal::MethodNotAllowed { .. } => "the path has other methods",
+        Refusal::BadJson => "the body is no JSON object",
+        Refusal::BadField { .. } => "a member or a parameter is missing or breaks its form",
+        Refusal::InvalidRequest { .. } => "the body asks for no grant",
+        _ => "the request is refused",
+    }
 }
 
 impl From<AllocError> for ApiFault {

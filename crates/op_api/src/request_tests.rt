@@ -33,7 +33,7 @@ impl Verifier for Nothing {
 }
 
 /// What a request means.
-fn read(
+pub(crate) fn read(
     alloc: Global,
     method: &str,
     target: &[u8],

@@ -1,4 +1,4 @@
-use Rattle.std.proofs.Common.{◌≡◌, ◌<◌, ◌^◌, ℕ, refl, sym, ◌∙◌, Some, arith, rules, length, get_or}
+use Rattle.std.proofs.Common.{◌≡◌, ◌<◌, ◌^◌, ℕ, arith, rules, length, get_or}
 use Rattle.op_names.specs.Secrets.{secret_text}
 use Rattle.op_names.specs.declared.Letter.TheVariants.{Interaction}
 use Rattle.op_api.proofs.References.{if_reference, if_no_reference, read_none}

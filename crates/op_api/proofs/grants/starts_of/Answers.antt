@@ -1,4 +1,4 @@
-use Rattle.std.proofs.Common.{sym, codes}
+use Rattle.std.proofs.Common.{codes}
 use Rattle.std.specs.Str.{bytes_eq}
 use Rattle.op_api.proofs.Starts.{start_step}
 use Rattle.op_api.proofs.grants.starts_of.Goals as goal

@@ -1,4 +1,4 @@
-use Rattle.std.proofs.Common.{sym, ◌∙◌, ap, Some, List, ℕ}
+use Rattle.std.proofs.Common.{sym}
 use Rattle.serde_json.specs.View.{view}
 use Rattle.op_api.proofs.PublicNames.{public_name}
 use Rattle.op_api.proofs.names.public_name_of.Goals as goal

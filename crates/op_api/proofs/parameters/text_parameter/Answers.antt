@@ -1,4 +1,4 @@
-use Rattle.std.proofs.Common.{◌≡◌, ap, List, ℕ, Vec, Global}
+use Rattle.std.proofs.Common.{ap, ℕ, Vec, Global}
 use Rattle.std.specs.String.{string_bytes}
 use Rattle.std.proofs.lemmas.Str.{IsUtf8-string_bytes}
 use Rattle.op_api.proofs.Queries.{text_there, no_text_there}
