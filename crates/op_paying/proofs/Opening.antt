@@ -1,5 +1,5 @@
 -- Accounts that are opened.
-use Rattle.std.proofs.Common.{◌≡◌, ℕ, suc, ◌+◌, Bool, true, false, cond, List, [], ◌∷◌, ◌++◌, length, refl, ◌∙◌, sym, ap, subst, arith, inl, inr, Some, None, Option, Result, Ok, Err, OnOk}
+use Rattle.std.proofs.Common.{◌≡◌, ℕ, suc, ◌+◌, Bool, true, false, cond, List, [], ◌∷◌, ◌++◌, length, refl, ◌∙◌, sym, ap, subst, arith, inl, inr, Some, None, Option, Result, Ok, Err, OnOk, OnErr}
 use Rattle.std.specs.Prelude.{◌||◌, ◌==◌, is_some, slice_get}
 use Rattle.std.specs.Option.{option_map_or, option_or, unwrap_or}
 use Rattle.std.proofs.lemmas.Bool.Decides.{nat_tests}
@@ -137,6 +137,10 @@ there_stays old new account asset a (inr more) there = ap (λ (v : LedgerValue).
 pub ok_on : {X F : Type 0} (result : Result X F) (P Q : Type 0) → (P → Q) → OnOk result P → OnOk result Q
 ok_on (Ok x) P Q step h = step h
 ok_on (Err e) P Q step h = h
+
+pub on_err : {X F : Type 0} (result : Result X F) (P : Type 0) → P → OnErr result P
+on_err (Ok x) P h = tt
+on_err (Err e) P h = h
 
 or_true : (b : Bool) → (b || true) ≡ true
 or_true true = refl

@@ -1,11 +1,12 @@
 -- Quotes and payments that are made, on money that is its history's.
-use Rattle.std.proofs.Common.{◌≡◌, ℕ, false, List, [], ◌∷◌, ◌++◌, ◌∙◌, sym, ap, subst}
+use Rattle.std.proofs.Common.{◌≡◌, ℕ, false, List, [], ◌∷◌, ◌++◌, ◌∙◌, sym, ap, subst, Some}
 use Rattle.op_incoming.specs.declared.incoming.Incoming.{Incoming}
 use Rattle.op_laws.proofs.Known.{all_known}
 use Rattle.op_laws.proofs.Renewed.{made_rows, made_held}
 use Rattle.op_ledger.specs.Balances.{LedgerValue}
 use Rattle.op_model.specs.Legal.{IsNext}
-use Rattle.op_model.specs.Payments.{PaymentMade, outgoings, quotes, quote_added, payment_added, incomings, incoming_made, is_step}
+use Rattle.op_model.specs.History.{nth}
+use Rattle.op_model.specs.Payments.{PaymentMade, outgoings, quotes, quote_row, quote_added, payment_added, incomings, incoming_made, is_step}
 use Rattle.op_model.specs.declared.act.Entry.{Entry}
 use Rattle.op_model.specs.declared.row.OutgoingRow.{OutgoingRow}
 use Rattle.op_model.specs.declared.row.QuoteRow.{QuoteRow}
@@ -60,3 +61,8 @@ payment_money history e old new made is next names no_incoming no_quote still ad
       payments_are = ap (λ (o : OutgoingsValue). o.rows) only.outgoings_are ∙ ap (λ (l : List OutgoingRow). l ++ fresh_row made ∷ []) is.payments_are ∙ sym rows;
       quotes_are = ap (λ (o : OutgoingsValue). o.quotes) only.outgoings_are ∙ is.quotes_are ∙ sym (quotes_stay history e no_quote);
     })
+
+-- ---- a quote of the history, as it is kept
+
+pub quote_kept : (history : List Entry) (money : Money) (q : ℕ) (row : QuoteRow) → IsMoneyOf history money → quote_row history q ≡ Some row → nth money.outgoings.quotes q ≡ Some row
+quote_kept history money q row is there = ap (λ (l : List QuoteRow). nth l q) is.quotes_are ∙ there

@@ -3,8 +3,10 @@
 #![tactic(auto)]
 
 mod accounts;
+mod making;
 mod money;
 mod payments;
 mod receiving;
+mod terms;
 
 pub use money::Money;
