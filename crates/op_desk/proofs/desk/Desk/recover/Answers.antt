@@ -11,11 +11,21 @@ use Rattle.op_desk.specs.Spelling.{Stands}
 use Rattle.op_journal.specs.declared.recovery.JournalFault.TheVariants as journal
 use Rattle.op_desk.specs.Faults.{of_journal}
 use Rattle.op_desk.specs.Wallets.{WalletValue, WalletState}
+use Rattle.op_causes.specs.Causes.{Rose}
+use Rattle.op_journal.specs.declared.recovery.JournalFault.{JournalFault}
 use Rattle.op_desk.specs.declared.fault.DeskFault.{DeskFault}
+use Rattle.op_desk.specs.declared.fault.DeskFault.TheVariants as desk
 use Rattle.op_desk.proofs.Closing.{image_spells}
 use Rattle.op_desk.proofs.Recovering.{first_calls, read_more, fails_at_frame, fails_at_record, fails_at_entry, begin_due, next_due, payload_due, spells_all, read_is_old}
 use Rattle.op_desk.proofs.Unique.{due_where, free_where, sound_fails_not, one_history}
 use Rattle.op_desk.proofs.desk.Desk.recover.Goals as goal
+
+-- only the journal's fault of the disk is the desk's
+disk_alone : (fault : JournalFault) → of_journal fault ≡ desk.DiskFault → fault ≡ journal.DiskFault
+disk_alone journal.DiskFault is = refl
+disk_alone journal.BadHeader is = cc
+disk_alone (journal.BadFrame at) is = cc
+disk_alone journal.Memory is = cc
 
 -- ---- at the start
 
@@ -89,9 +99,17 @@ returns-in-Err-next_frame-clause-any_moment g c told =
     (λ x is. read_is_old (g.D.Disk.seen first) seen x (g.D.Disk.images first) (inv.read told).opened (g.met.D.Disk.reads_an_image first told) is)
 
 pub returns-in-Err-next_frame-clause-cause : goal.returns-in-Err-next_frame-clause-cause
-returns-in-Err-next_frame-clause-cause g c other =
+returns-in-Err-next_frame-clause-cause g c =
     let e = c.in-Err-next_frame in
-    e.ensures.cause (λ is. let same : e.fault ≡ journal.DiskFault = cc in other (ap Err (c.from-in-Err-next_frame.ensures ∙ ap of_journal same))) ∙ c.loop-frame.invariant.faults
+    let before = c.loop-frame.invariant.faults in
+    record {
+      cause = λ named.
+          let same : c.from-in-Err-next_frame.result ≡ desk.DiskFault = cc in
+          let is = ap Err (disk_alone e.fault (sym c.from-in-Err-next_frame.ensures ∙ same)) in
+          subst (λ (k : ℕ). Rose k (g.D.Disk.faults c.next_frame.new.disk)) before (e.ensures.cause.cause is);
+      kept = λ other.
+          e.ensures.cause.kept (λ is. let same : e.fault ≡ journal.DiskFault = cc in other (ap Err (c.from-in-Err-next_frame.ensures ∙ ap of_journal same))) ∙ before;
+    }
 
 -- ---- the end
 
