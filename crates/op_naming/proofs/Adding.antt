@@ -1,5 +1,5 @@
 -- The names behind what an act adds.
-use Rattle.std.proofs.Common.{◌≡◌, ℕ, Bool, true, false, List, [], ◌∷◌, ◌++◌, refl, ◌∙◌, sym, ap, subst}
+use Rattle.std.proofs.Common.{◌≡◌, true, false, List, [], ◌∷◌, ◌++◌, refl}
 use Rattle.op_model.specs.declared.act.Act.{Act}
 use Rattle.op_model.specs.declared.act.Act.TheVariants as acts
 use Rattle.op_model.specs.declared.act.Entry.{Entry}

@@ -1,5 +1,5 @@
 -- The names behind one entry more.
-use Rattle.std.proofs.Common.{◌≡◌, ℕ, ◌+◌, Bool, true, false, cond, List, [], ◌∷◌, ◌++◌, length, refl, ◌∙◌, sym, ap, subst, Some, None, Option, map, append-nil, arith}
+use Rattle.std.proofs.Common.{◌≡◌, ℕ, ◌+◌, Bool, true, false, List, [], ◌∷◌, ◌++◌, length, refl, ◌∙◌, sym, ap, subst, Some, None, Option, map, append-nil, arith}
 use Rattle.std.specs.Prelude.{◌&&◌, ◌==◌, not, codes, unwrap_or, if◌then◌else◌}
 use Rattle.std.specs.List.{filter_map}
 use Rattle.std.specs.Option.{option_to_list}
@@ -15,11 +15,10 @@ use Rattle.op_model.specs.declared.act.Entry.{Entry}
 use Rattle.op_model.proofs.Next.{origins-next, assets-next, addresses-next, transfers-next, collected-next, last-next}
 use Rattle.op_naming.specs.Indexes.{IsIndexOf, IsSameIndex}
 use Rattle.op_naming.specs.Kept.{asset_kept, address_kept, transfer_kept, asset_key, address_key, transfer_key, asset_text}
-use Rattle.op_naming.specs.Added.{AddsNone, adds_name}
+use Rattle.op_naming.specs.Added.{AddsNone}
 use Rattle.op_naming.specs.Names.{AreNames, AreAlike, has_origin}
 use Rattle.op_naming.specs.Rates.{AreRatesOf, rate_in}
 use Rattle.op_naming.specs.declared.index.Index.{Index}
-use Rattle.op_naming.specs.declared.kept.AssetKept.{AssetKept}
 use Rattle.op_naming.specs.declared.kept.AddressKept.{AddressKept}
 use Rattle.op_model.specs.declared.act.Account.{Account}
 use Rattle.op_naming.specs.declared.kept.TransferKept.{TransferKept}

@@ -12,7 +12,6 @@ use Rattle.op_naming.specs.Rates.{rates_room}
 use Rattle.op_naming.specs.declared.added.Added.{Added}
 use Rattle.op_naming.specs.declared.added.Added.TheVariants.{Nothing, OfOrigin, OfAsset, OfAddress, OfTransfer, OfRate}
 use Rattle.op_naming.specs.declared.names.Names.{Names}
-use Rattle.std.specs.declared.option.Option.{Option}
 
 abbrev pub adds_name : Act → Bool
 adds_name (acts.OriginSet origin) = true

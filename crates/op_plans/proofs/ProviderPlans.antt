@@ -1,28 +1,25 @@
 -- What comes of the provider's requests.
-use Rattle.std.proofs.Common.{◌≡◌, ℕ, suc, ◌+◌, Bool, true, false, cond, List, [], ◌∷◌, ◌++◌, length, refl, ◌∙◌, sym, ap, subst, arith, Some, None, Option, Result, Ok, Err, IfOk, map}
-use Rattle.std.specs.Prelude.{◌||◌, ◌==◌, not, is_some, ok_or, unwrap_or}
-use Rattle.std.specs.Option.{option_or, option_map, option_map_or}
+use Rattle.std.proofs.Common.{◌≡◌, ℕ, ◌+◌, Bool, true, false, cond, List, [], ◌∷◌, ◌++◌, length, refl, ◌∙◌, sym, ap, arith, Some, None, Option, Result, Ok, Err, IfOk}
+use Rattle.std.specs.Prelude.{◌||◌, ◌==◌, not, is_some, unwrap_or}
+use Rattle.std.specs.Option.{option_or, option_map}
 use Rattle.std.specs.Str.{bytes_eq}
 use Rattle.std.proofs.lemmas.Slice.Eq.{bytes_eq-Decides}
 use Rattle.op_amount.specs.declared.Asset.{Asset}
 use Rattle.op_amount.specs.declared.Rate.{Rate}
-use Rattle.op_model.specs.AdminAnswers.{set_origin, add_asset, add_address, set_rate, read_address}
 use Rattle.op_model.specs.Answer.{body_for, told}
-use Rattle.op_model.specs.Asking.{◌>>=◌, refuse_if}
-use Rattle.op_model.specs.History.{number_of, AssetRow, AddressRow, nth, origins, assets, addresses, asset_number, path_number, asset_row, address_row, no_asset, no_address}
+use Rattle.op_model.specs.History.{number_of, AssetRow, AddressRow, nth, origins, assets, addresses, asset_number, path_number, no_asset, no_address}
 use Rattle.op_model.specs.Legal.{asset_named}
 use Rattle.op_model.specs.Shown.{address_shown}
 use Rattle.op_model.specs.declared.act.Act.TheVariants as acts
 use Rattle.op_model.specs.declared.act.Entry.{Entry}
 use Rattle.op_model.specs.declared.reply.AddressShown.{AddressShown}
-use Rattle.op_model.specs.declared.reply.ReplyBody.{ReplyBody}
 use Rattle.op_model.specs.declared.reply.ReplyBody.TheVariants as bodies
 use Rattle.op_model.specs.declared.reply.Refusal.TheVariants.{NotFound, AlreadyExists, OriginFixed, SameAsset}
 use Rattle.op_model.specs.declared.request.Request.TheVariants as requests
 use Rattle.op_model.specs.declared.request.Verdict.{Verdict}
 use Rattle.op_model.proofs.Next.{addresses-next, position_from-append}
 use Rattle.op_plans.proofs.Found.{asset_found}
-use Rattle.op_plans.specs.Plans.{IsPlan, IsPlanned}
+use Rattle.op_plans.specs.Plans.{IsPlanned}
 use Rattle.op_plans.specs.declared.plan.Plan.TheVariants.{Refused, Told, Acts}
 use Rattle.op_plans.specs.Plans.{AreBased}
 use Rattle.op_naming.specs.Kept.{asset_kept, address_kept}

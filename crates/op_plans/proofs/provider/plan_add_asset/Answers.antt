@@ -1,4 +1,4 @@
-use Rattle.std.proofs.Common.{◌≡◌, ◌∙◌, List, ℕ, ap, subst, sym}
+use Rattle.std.proofs.Common.{◌∙◌, List, ℕ, ap, subst, sym}
 use Rattle.std.specs.Prelude.{is_some}
 use Rattle.op_model.specs.declared.act.Act.TheVariants as acts
 use Rattle.op_model.specs.declared.reply.ReplyBody.TheVariants as bodies

@@ -1,4 +1,4 @@
-use Rattle.std.proofs.Common.{◌≡◌, sym, subst}
+use Rattle.std.proofs.Common.{sym, subst}
 use Rattle.op_model.specs.declared.request.Request.{Request}
 use Rattle.op_plans.specs.Plans.{IsPlanned}
 use Rattle.op_plans.proofs.routes.plan_request.Goals as goal

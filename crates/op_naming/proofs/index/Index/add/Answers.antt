@@ -1,7 +1,6 @@
-use Rattle.std.proofs.Common.{◌≡◌, ◌∙◌, ◌+◌, ◌∷◌, [], List, ℕ, length, sym, ap, arith, None, Some, cond}
+use Rattle.std.proofs.Common.{◌≡◌, ◌∙◌, ◌+◌, length, sym, ap, arith, Some, cond}
 use Rattle.std.proofs.lemmas.List.{length_push}
 use Rattle.std.specs.Str.{bytes_eq}
-use Rattle.op_naming.specs.Indexes.{IsIndexOf}
 use Rattle.op_naming.proofs.Texts.{put_texts, numbered_next}
 use Rattle.op_naming.proofs.index.Index.add.Goals as goal
 

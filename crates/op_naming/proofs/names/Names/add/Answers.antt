@@ -1,4 +1,4 @@
-use Rattle.std.proofs.Common.{◌≡◌, subst}
+use Rattle.std.proofs.Common.{subst}
 use Rattle.op_naming.specs.Added.{IsAddedBy}
 use Rattle.op_naming.proofs.Adding.{nothing_added}
 use Rattle.op_naming.proofs.names.Names.add.Goals as goal

@@ -1,4 +1,4 @@
-use Rattle.std.proofs.Common.{◌≡◌, ◌∙◌, ◌∷◌, ◌++◌, [], List, ℕ, ap, subst, refl, map}
+use Rattle.std.proofs.Common.{◌∙◌, ◌∷◌, ◌++◌, [], List, ℕ, ap, subst, refl, map}
 use Rattle.op_model.specs.History.{addresses}
 use Rattle.op_naming.specs.Indexes.{IsIndexOf, number_in}
 use Rattle.op_naming.specs.Kept.{address_key}

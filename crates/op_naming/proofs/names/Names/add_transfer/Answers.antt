@@ -1,4 +1,4 @@
-use Rattle.std.proofs.Common.{◌≡◌, ◌∙◌, List, ℕ, refl, map}
+use Rattle.std.proofs.Common.{refl, map}
 use Rattle.op_model.specs.AdminAnswers.{transfers}
 use Rattle.op_naming.specs.Kept.{transfer_key}
 use Rattle.op_naming.proofs.NamesNext.{transfer_next}

@@ -1,4 +1,4 @@
-use Rattle.std.proofs.Common.{◌≡◌, ◌∙◌, List, ℕ, ap}
+use Rattle.std.proofs.Common.{◌∙◌, List, ap}
 use Rattle.op_model.specs.History.{nth, addresses}
 use Rattle.op_naming.specs.Kept.{address_kept}
 use Rattle.op_naming.specs.declared.kept.AddressKept.{AddressKept}

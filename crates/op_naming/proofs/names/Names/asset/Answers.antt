@@ -1,4 +1,4 @@
-use Rattle.std.proofs.Common.{◌≡◌, ◌∙◌, List, ℕ, ap}
+use Rattle.std.proofs.Common.{◌∙◌, List, ap}
 use Rattle.op_model.specs.History.{nth, assets}
 use Rattle.op_naming.specs.Kept.{asset_kept}
 use Rattle.op_naming.specs.declared.kept.AssetKept.{AssetKept}

@@ -1,4 +1,4 @@
-use Rattle.std.proofs.Common.{◌≡◌, ◌∙◌, ◌∷◌, List, ℕ, ap}
+use Rattle.std.proofs.Common.{◌∙◌, ◌∷◌, List, ℕ, ap}
 use Rattle.op_naming.specs.Indexes.{number_in}
 use Rattle.op_naming.proofs.Numbers.{asset_numbered}
 use Rattle.op_naming.proofs.names.Names.find_asset.Goals as goal

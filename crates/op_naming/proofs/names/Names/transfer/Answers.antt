@@ -1,4 +1,4 @@
-use Rattle.std.proofs.Common.{◌≡◌, ◌∙◌, List, ℕ, ap, Some, None, sym}
+use Rattle.std.proofs.Common.{◌∙◌, List, ap, Some, None}
 use Rattle.op_model.specs.History.{nth}
 use Rattle.op_naming.specs.declared.kept.TransferKept.{TransferKept}
 use Rattle.op_naming.proofs.Numbers.{kept_transfer}
