@@ -1,15 +1,23 @@
-use Rattle.std.proofs.Common.{◌≡◌, arith, sym, ap, subst, ◌∙◌, refl}
+use Rattle.std.proofs.Common.{◌≡◌, ℕ, arith, sym, ap, subst, ◌∙◌, refl}
+use Rattle.std.specs.Prelude.{Err}
+use Rattle.op_causes.specs.Causes.{Rose, NamesFault}
 use Rattle.op_desk.specs.Wallets.{IsSound}
 use Rattle.op_http.specs.Held.{Held}
 use Rattle.op_session.specs.Session.{Session, settled}
 use Rattle.op_session.specs.Stood.{opened_with, with_entries}
 use Rattle.op_session.specs.Turn.{Standing, turn_limit}
+use Rattle.op_session.specs.declared.end.End.TheVariants.{DiskFault, WriteFault}
 use Rattle.op_cli.specs.Kept.{history_at}
 use Rattle.op_cli.specs.Told.{world_of}
 use Rattle.op_cli.specs.Turns.{here}
 use Rattle.op_cli.proofs.Journals.{kept_more, kept_first, now_opened, now_with}
 use Rattle.op_cli.proofs.SessionLemmas.{one_more, at_once, at_limit, begins_fresh, no_table}
 use Rattle.op_cli.proofs.session.session.Goals as goal
+
+-- the count at first was that before
+since : (first before now : ℕ) (named named' : Type 0) → before ≡ first → (named' → named) → (named → named') → NamesFault before now named → NamesFault first now named'
+since first before now named named' same to back is =
+    record { cause = λ n. subst (λ (k : ℕ). Rose k now) same (is.cause (to n)); kept = λ other. is.kept (λ n. other (back n)) ∙ same }
 
 pub returns-in_default-clause-session : goal.returns-in_default-clause-session
 returns-in_default-clause-session g c =
@@ -76,6 +84,20 @@ returns-in-Err-clause-session g c =
       kept_more g.D.Disk g.met.D.Disk.only_now (history_at c.args.desk) stood ended.0 c.args.outside.now.disk c.loop-answered.outside.disk c.turn.new.outside.disk
           inv.kept inv.disk_kept ended.2,
     )
+
+pub returns-in-Err-clause-causes : goal.returns-in-Err-clause-causes
+returns-in-Err-clause-causes g c =
+    let inv = c.loop-answered.invariant.1 in
+    let turned = c.in-Err.ensures.causes in
+    record {
+      read = since _ _ _ _ _ inv.read_kept (λ is. ap Err is) (λ is. cc) turned.read;
+      round = record {
+        disk_cause = λ is. subst (λ (n : ℕ). Rose n (g.D.Disk.faults c.turn.new.outside.disk)) inv.disk_kept (turned.round.disk_cause (ap Err is));
+        disk_kept = λ no_disk no_write. turned.round.disk_kept (λ is. let same : c.in-Err.end ≡ DiskFault = cc in no_disk same) (λ is. let same : c.in-Err.end ≡ WriteFault = cc in no_write same) ∙ inv.disk_kept;
+        write = since _ _ _ _ _ inv.write_kept (λ is. ap Err is) (λ is. cc) turned.round.write;
+      };
+      draw = since _ _ _ _ _ inv.draw_kept (λ is. ap Err is) (λ is. cc) turned.draw;
+    }
 
 pub returns-clause-session : goal.returns-clause-session
 returns-clause-session g c =
