@@ -4,6 +4,5 @@ mod Printable
 mod Results
 mod RoundLemmas
 mod SessionLemmas
-mod SoFar
 mod TurnLemmas
 mod WholeLemmas

@@ -1,11 +1,8 @@
 -- The parts of a turn.
-use Rattle.std.specs.Prelude.{◌≡◌, ◌≢◌, ◌⊎◌, ◌+◌, ◌<◌, ℕ, Bool, true, List, [], ◌∷◌, ◌++◌, length, ⊤, IsTrue}
+use Rattle.std.specs.Prelude.{◌≡◌, ◌≢◌, ◌⊎◌, ◌+◌, ◌<◌, ℕ, Bool, List, [], ◌∷◌, ◌++◌, length}
 use Rattle.std.specs.Io.KnownBytes.{Appends, Keeps}
 use Rattle.std.specs.declared.option.Option.{Option}
 use Rattle.std.specs.declared.result.Result.{Result}
-use Rattle.op_api.specs.declared.request.ApiFault.{ApiFault}
-use Rattle.op_api.specs.declared.request.ApiFault.TheVariants as api
-use Rattle.op_desk.specs.Built.{is_built_request, is_built_refusal}
 use Rattle.op_desk.specs.Wallets.{Handles}
 use Rattle.op_http.specs.Held.{Held}
 use Rattle.op_http.specs.Reader.{stream}
@@ -15,7 +12,6 @@ use Rattle.op_ports.specs.Clock.{AsksKnown}
 use Rattle.op_ports.specs.Sink.{AppendsFront}
 use Rattle.op_ports.specs.Words.{DrawsKnown}
 use Rattle.op_model.specs.History.{moment_of_turn}
-use Rattle.op_model.specs.Legal.{keeps_forms}
 use Rattle.op_session.specs.Built.{meant_so_far}
 use Rattle.op_model.specs.Printed.{printed}
 use Rattle.op_model.specs.Requests.{Raw}
@@ -62,16 +58,6 @@ Answers allows old verdict answer word asked reply entries =
     (fee : ℕ) × (wanted : Bool) × ((text : List ℕ) (raw : Raw) → IsReplied allows old (turn_of text raw verdict answer word fee wanted reply) asked (old ++ entries))
 
 -- ---- a round of one task
-
--- a request is built, and its members keep their forms
-pub record IsFit (request : Request) : Type 0 where
-  pub built : is_built_request request ≡ true
-  pub forms : keeps_forms request ≡ true
-
--- the refusal of a request that is not understood has a form that is built
-abbrev pub IsBuiltFault : ApiFault → Type 0
-IsBuiltFault (api.Refused refusal) = IsTrue (is_built_refusal refusal)
-IsBuiltFault api.Memory = ⊤
 
 -- the task is handled in a turn at which the clock gave this answer and this word was drawn, and its reply is written
 abbrev pub Handled : FeesAllowed → (old entries : List Entry) (written written' : Option (List ℕ)) → ℕ → List ℕ → Task → Type 0

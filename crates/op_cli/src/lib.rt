@@ -4,7 +4,6 @@
 //! over the bytes that were read, and what the journal's disk spells at every moment.
 #![tactic(auto)]
 
-mod built;
 mod laws;
 mod outside;
 mod program;

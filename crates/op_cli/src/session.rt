@@ -19,12 +19,12 @@ ghost use Rattle.op_session.specs.Session.{Final, Session, begun, settled};
 ghost use Rattle.op_session.specs.Stood.{now, opened_with, with_entries};
 ghost use Rattle.op_session.specs.declared.end.End.TheVariants.{WriteFault};
 ghost use Rattle.op_ports.specs.Sink.{AppendsFront};
+ghost use Rattle.op_round.specs.Jobs.{IsFitRequest};
 ghost use Rattle.op_cli.specs.Causes.{HasCauses, HasRoundCauses};
 ghost use Rattle.op_cli.specs.Kept.{history_at, Adds, EndsBy, FromEach, IsReady, Leaves, Kept};
 ghost use Rattle.op_cli.specs.Told.{world_of, LeavesOthers};
-ghost use Rattle.op_cli.specs.Turns.{here, Turns, Stops, IsFit, Handled, NotHandled, NotStood, Told, NotTold, NotWritten, Replies, ReplyFails, RefusalEnds, Unread};
+ghost use Rattle.op_cli.specs.Turns.{here, Turns, Stops, Handled, NotHandled, NotStood, Told, NotTold, NotWritten, Replies, ReplyFails, RefusalEnds, Unread};
 
-use crate::built::prepare_built;
 use crate::outside::Outside;
 use op_api::{ApiFault, disk_fault_reply, journal_full_reply};
 use op_desk::{Batch, Desk, RoundFault};
@@ -34,6 +34,7 @@ use op_model::{Refusal, Reply, Request, Task, Verdict, Word};
 use op_ports::{Clock, Sink, Source, Verifier, Words};
 use op_pricing::{FeeRule, PriceHook};
 use op_reply::print_reply;
+use op_round::prepare_built;
 use op_session::End;
 use op_time::Moment;
 use std::alloc::Global;
@@ -207,7 +208,7 @@ fn run_request<D: Disk, S: Source, K: Sink, C: Clock, W: Words, V: Verifier, F: 
 ) -> Result<(), End>
     requires ready { IsReady D.Disk desk.old outside.old.disk }
     requires sound { IsSound (history_at desk.old) }
-    requires fit { IsFit request }
+    requires fit { IsFitRequest request }
 
     ensures ok { OnOk result (Adds D.Disk (history_at desk.old) (history_at desk.new) outside.old.disk outside.new.disk (λ stood entries. Handled F.FeeTerms.allows (now stood) entries (K.written outside.old.sink) (K.written outside.new.sink) asked.now.answer asked.now.word (Ask request verdict))) }
     ensures ready { OnOk result (IsReady D.Disk desk.new outside.new.disk) }

@@ -1,7 +1,6 @@
 mod Assets
 pub mod Batches
 pub mod Closing
-mod CodeText
 pub mod Lists
 mod Payloads
 pub mod Recovering

@@ -1,15 +1,14 @@
 -- A payment that may be made: its grant is there, its moment lies in an interval of it, and the cap is not passed.
-use Rattle.std.proofs.Common.{◌≡◌, ℕ, ◌+◌, Bool, true, false, List, [], ◌∷◌, ◌++◌, refl, ◌∙◌, ap, subst, Some, None, Ok, Err, Option}
+use Rattle.std.proofs.Common.{◌≡◌, ℕ, true, false, List, [], refl, ◌∙◌, ap, subst, Some, None, Ok, Option}
 use Rattle.std.specs.Prelude.{◌==◌, is_some, is_none, not, nat_le, MatchOption}
-use Rattle.std.specs.List.{AllByRecursion, position_from}
 use Rattle.std.specs.Option.{option_map, option_map_or}
 use Rattle.op_amount.specs.declared.Amount.{Amount}
 use Rattle.op_amount.specs.declared.Priced.{Priced}
 use Rattle.op_names.specs.declared.AddressName.{AddressName}
 use Rattle.op_names.specs.declared.Kind.TheVariants as kinds
 use Rattle.op_names.specs.declared.RowName.{RowName}
-use Rattle.op_model.specs.Access.{Looked, PaymentLooked, access_refusal, denial, first_failure, failures, item_failures, limit_failures}
-use Rattle.op_model.specs.Asking.{Caller, caller, access, address_named, row_named, refuse_with, Found, found}
+use Rattle.op_model.specs.Access.{Looked, PaymentLooked}
+use Rattle.op_model.specs.Asking.{Caller, caller, access, address_named, row_named, Found, found}
 use Rattle.op_model.specs.Grants.{current_token, interval_at, items_of}
 use Rattle.op_model.specs.History.{asset_of_address}
 use Rattle.op_model.specs.Incoming.{is_open}
@@ -19,7 +18,6 @@ use Rattle.op_model.specs.Payments.{quote_row}
 use Rattle.op_model.specs.declared.act.Act.{Act}
 use Rattle.op_model.specs.declared.act.Act.TheVariants as acts
 use Rattle.op_model.specs.declared.act.Entry.{Entry}
-use Rattle.op_model.specs.declared.reply.Refusal.{Refusal}
 use Rattle.op_model.specs.declared.reply.Refusal.TheVariants.{NotFound, QuoteUsed, QuoteExpired, ReceiverClosed}
 use Rattle.op_model.specs.declared.request.PaymentAsked.TheVariants.{Quoted, Direct}
 use Rattle.op_model.specs.declared.request.Request.TheVariants as requests
@@ -28,42 +26,19 @@ use Rattle.op_model.specs.declared.row.GrantRow.{GrantRow}
 use Rattle.op_model.specs.declared.row.QuoteRow.{QuoteRow}
 use Rattle.op_legal.proofs.Callers.{caller_is}
 use Rattle.op_legal.proofs.Chains.{act_in, some_is, past_want, past_refusal, past_step}
-use Rattle.op_laws.proofs.Paying.{IsPaying, outgoing_acts, direct_pays}
+use Rattle.op_laws.proofs.Paying.{IsPaying, access_limits, outgoing_acts, direct_pays}
 use Rattle.op_granting.specs.declared.next.PaidUnder.{PaidUnder}
 use Rattle.op_granting.specs.Spending.{under, paid_by}
 use Rattle.op_granting.proofs.Waiting.{spelled}
 
 -- ---- an access that passed has an interval
 
-refused_with : (refusal : Option Refusal) → refuse_with refusal ≡ Ok tt → refusal ≡ None
-refused_with None h = refl
-refused_with (Some r) h = absurd (let e : Err r ≡ Ok tt = h in cc)
-
-no_denial : (deny : ℕ → Refusal) (failed : Option ℕ) → option_map deny failed ≡ None → failed ≡ None
-no_denial deny None h = refl
-no_denial deny (Some n) h = absurd (let e : Some (deny n) ≡ None = h in cc)
-
-each_passes : (n : ℕ) (fails : List Bool) → position_from (λ f. f) n fails ≡ None → AllByRecursion (λ f. f ≡ false) fails
-each_passes n [] h = tt
-each_passes n (true ∷ fs) h = absurd (let e : Some n ≡ None = h in cc)
-each_passes n (false ∷ fs) h = (refl, each_passes (n + 1) fs h)
-
 there_of : (o : Option ℕ) → is_none o ≡ false → is_some o ≡ true
 there_of None h = absurd (let e : true ≡ false = h in cc)
 there_of (Some j) h = refl
 
-limits_pass : (history : List Entry) (t : ℕ) (client : Option (List ℕ)) (g : ℕ) (grant : GrantRow) (looked : Looked) (payment : PaymentLooked) → looked.payment ≡ Some payment
-    → AllByRecursion (λ f. f ≡ false) (item_failures client grant looked ++ option_map_or (limit_failures history t g grant.items) looked.payment []) → is_some (interval_at grant.items t) ≡ true
-limits_pass history t client g grant looked payment is each =
-    let all : AllByRecursion (λ f. f ≡ false) (item_failures client grant looked ++ limit_failures history t g grant.items payment) =
-    subst (λ (o : Option PaymentLooked). AllByRecursion (λ f. f ≡ false) (item_failures client grant looked ++ option_map_or (limit_failures history t g grant.items) o [])) is each in
-    there_of (interval_at grant.items t) all.1.1.1.1.1.1.1.0
-
 access_lies : (history : List Entry) (t : ℕ) (verdict : Verdict) (who : Caller) (looked : Looked) (payment : PaymentLooked) → looked.payment ≡ Some payment → access history t verdict who looked ≡ Ok tt → is_some (interval_at who.row.items t) ≡ true
-access_lies history t verdict who looked payment is h =
-    limits_pass history t verdict.client who.grant who.row looked payment is
-    (each_passes 1 (failures history t verdict.client who.grant who.row looked)
-    (no_denial (denial history t who.grant who.row) (first_failure (failures history t verdict.client who.grant who.row looked)) (refused_with (access_refusal history t verdict.client who.grant who.row looked) h)))
+access_lies history t verdict who looked payment is h = there_of (interval_at who.row.items t) (access_limits history t verdict who looked payment is h).inside
 
 -- the moment lies in an interval of the grant that an act pays under
 abbrev pub LiesFor : List Entry → ℕ → Act → Type 0

@@ -160,7 +160,7 @@ record IsPriced (rate : Rate) (p : Priced) : Type 0 where
   gives : 0 < p.receive
   top : p.receive ≤ TOP
 
-not_small : (large small over : Bool) (room : ℕ) (p price : Priced) → cond large (Err faults.TooLarge) (cond small (Err faults.TooSmall) (cond over (Err (faults.OverReceiver room)) (Ok p))) ≡ Ok price → (small ≡ false) × (large ≡ false)
+pub not_small : (large small over : Bool) (room : ℕ) (p price : Priced) → cond large (Err faults.TooLarge) (cond small (Err faults.TooSmall) (cond over (Err (faults.OverReceiver room)) (Ok p))) ≡ Ok price → (small ≡ false) × (large ≡ false)
 not_small true small over room p price h = absurd (let e : Err faults.TooLarge ≡ Ok price = h in cc)
 not_small false true over room p price h = absurd (let e : Err faults.TooSmall ≡ Ok price = h in cc)
 not_small false false over room p price h = (refl, refl)
@@ -168,7 +168,7 @@ not_small false false over room p price h = (refl, refl)
 no_more : (n : ℕ) → nat_lt TOP n ≡ false → n ≤ TOP
 no_more n h = grind (arith, nat_tests)
 
-not_none : (n : ℕ) → (n == 0) ≡ false → 0 < n
+pub not_none : (n : ℕ) → (n == 0) ≡ false → 0 < n
 not_none n h = grind (arith, nat_tests)
 
 debit_is : (fee : ℕ) (rate : Rate) (mode : Mode) → 0 < source_of fee rate mode → debit_of fee rate mode ≡ source_of fee rate mode + fee

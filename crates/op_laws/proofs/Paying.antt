@@ -1,7 +1,7 @@
 -- What a payment that is made tells of its grant and the grant's cap.
 use Rattle.std.proofs.Common.{◌≡◌, ℕ, ◌+◌, ◌≤◌, Bool, true, false, cond, List, [], ◌∷◌, ◌++◌, refl, ◌∙◌, sym, ap, subst, arith, Some, None, Option}
 use Rattle.std.proofs.lemmas.Bool.Decides.{nat_tests}
-use Rattle.std.specs.Prelude.{◌==◌, not, nat_le, nat_lt, Ok, Err, MatchOption}
+use Rattle.std.specs.Prelude.{◌==◌, not, nat_le, nat_lt, Ok, MatchOption}
 use Rattle.std.specs.List.{AllByRecursion, position_from}
 use Rattle.std.specs.Option.{option_map, option_map_or, is_none}
 use Rattle.std.specs.Result.{result_ok}
@@ -17,7 +17,7 @@ use Rattle.op_names.specs.declared.RowName.{RowName}
 use Rattle.op_names.specs.declared.Kind.TheVariants as kinds
 use Rattle.op_model.specs.Access.{Looked, PaymentLooked, access_refusal, denial, first_failure, failures, item_failures, limit_failures, breaks_cap, capped_value, spent_at}
 use Rattle.op_model.specs.Answer.{act_for}
-use Rattle.op_model.specs.Asking.{Caller, caller, access, address_named, row_named, refuse_with, Found, found}
+use Rattle.op_model.specs.Asking.{Caller, caller, access, address_named, row_named, Found, found}
 use Rattle.op_model.specs.Grants.{grant_row, current_token, interval_at, cap_of}
 use Rattle.op_model.specs.History.{asset_of_address}
 use Rattle.op_model.specs.Incoming.{is_open}
@@ -37,29 +37,22 @@ use Rattle.op_model.specs.declared.request.Verdict.{Verdict}
 use Rattle.op_model.specs.declared.row.GrantRow.{GrantRow}
 use Rattle.op_model.specs.declared.row.IncomingRow.{IncomingRow}
 use Rattle.op_model.specs.declared.row.QuoteRow.{QuoteRow}
-use Rattle.op_legal.proofs.Callers.{caller_is}
+use Rattle.op_legal.proofs.Callers.{caller_is, refused_with, no_denial}
 use Rattle.op_legal.proofs.Chains.{act_in, outcome_act, some_is, past_want, past_refusal, past_step, within_step, within_refusal, within_want, ok_is}
 use Rattle.op_legal.proofs.Clients.{found_there}
 use Rattle.op_legal.proofs.Quoting.{price_is}
 
 -- ---- an access that passed
 
-refused_with : (refusal : Option Refusal) → refuse_with refusal ≡ Ok tt → refusal ≡ None
-refused_with None h = refl
-refused_with (Some r) h = absurd (let e : Err r ≡ Ok tt = h in cc)
-
-no_denial : (deny : ℕ → Refusal) (failed : Option ℕ) → option_map deny failed ≡ None → failed ≡ None
-no_denial deny None h = refl
-no_denial deny (Some n) h = absurd (let e : Some (deny n) ≡ None = h in cc)
-
 each_passes : (n : ℕ) (fails : List Bool) → position_from (λ f. f) n fails ≡ None → AllByRecursion (λ f. f ≡ false) fails
 each_passes n [] h = tt
 each_passes n (true ∷ fs) h = absurd (let e : Some n ≡ None = h in cc)
 each_passes n (false ∷ fs) h = (refl, each_passes (n + 1) fs h)
 
-record PassesLimits (history : List Entry) (t g : ℕ) (grant : GrantRow) (payment : PaymentLooked) : Type 0 where
-  inside : is_none (interval_at grant.items t) ≡ false
-  capped : option_map_or (breaks_cap history t g grant.items payment) (cap_of grant.items) false ≡ false
+-- the limits of the grant and the cap let the payment through
+pub record PassesLimits (history : List Entry) (t g : ℕ) (grant : GrantRow) (payment : PaymentLooked) : Type 0 where
+  pub inside : is_none (interval_at grant.items t) ≡ false
+  pub capped : option_map_or (breaks_cap history t g grant.items payment) (cap_of grant.items) false ≡ false
 
 limits_pass : (history : List Entry) (t : ℕ) (client : Option (List ℕ)) (g : ℕ) (grant : GrantRow) (looked : Looked) (payment : PaymentLooked) → looked.payment ≡ Some payment
     → AllByRecursion (λ f. f ≡ false) (item_failures client grant looked ++ option_map_or (limit_failures history t g grant.items) looked.payment []) → PassesLimits history t g grant payment
@@ -68,7 +61,7 @@ limits_pass history t client g grant looked payment is each =
     subst (λ (o : Option PaymentLooked). AllByRecursion (λ f. f ≡ false) (item_failures client grant looked ++ option_map_or (limit_failures history t g grant.items) o [])) is each in
     record { inside = all.1.1.1.1.1.1.1.0; capped = all.1.1.1.1.1.1.1.1.0 }
 
-access_limits : (history : List Entry) (t : ℕ) (verdict : Verdict) (who : Caller) (looked : Looked) (payment : PaymentLooked) → looked.payment ≡ Some payment → access history t verdict who looked ≡ Ok tt → PassesLimits history t who.grant who.row payment
+pub access_limits : (history : List Entry) (t : ℕ) (verdict : Verdict) (who : Caller) (looked : Looked) (payment : PaymentLooked) → looked.payment ≡ Some payment → access history t verdict who looked ≡ Ok tt → PassesLimits history t who.grant who.row payment
 access_limits history t verdict who looked payment is h =
     limits_pass history t verdict.client who.grant who.row looked payment is
     (each_passes 1 (failures history t verdict.client who.grant who.row looked)

@@ -62,11 +62,11 @@ caller_is history t verdict who h =
 
 -- ---- access passes only the grant's client
 
-refused_with : (refusal : Option Refusal) → refuse_with refusal ≡ Ok tt → refusal ≡ None
+pub refused_with : (refusal : Option Refusal) → refuse_with refusal ≡ Ok tt → refusal ≡ None
 refused_with None h = refl
 refused_with (Some r) h = absurd (let e : Err r ≡ Ok tt = h in cc)
 
-no_denial : (deny : ℕ → Refusal) (failed : Option ℕ) → option_map deny failed ≡ None → failed ≡ None
+pub no_denial : (deny : ℕ → Refusal) (failed : Option ℕ) → option_map deny failed ≡ None → failed ≡ None
 no_denial deny None h = refl
 no_denial deny (Some n) h = absurd (let e : Some (deny n) ≡ None = h in cc)
 

@@ -1,5 +1,4 @@
 pub mod Adding
-pub mod CodeText
 pub mod Lists
 pub mod NamesNext
 pub mod Numbers

@@ -1,6 +1,6 @@
 -- What an entry that may follow tells of the price that it records.
-use Rattle.std.proofs.Common.{◌≡◌, ℕ, zero, suc, ◌+◌, ◌-◌, ◌*◌, ◌/◌, ◌<◌, ◌≤◌, Bool, true, false, cond, List, [], refl, ◌∙◌, sym, subst, arith, Some, None, Option}
-use Rattle.std.specs.Prelude.{◌==◌, nat_le, Ok, Err, unwrap_or}
+use Rattle.std.proofs.Common.{◌≡◌, ℕ, zero, suc, ◌+◌, ◌-◌, ◌*◌, ◌/◌, ◌<◌, ◌≤◌, true, List, [], refl, ◌∙◌, sym, subst, arith, Some, None, Option}
+use Rattle.std.specs.Prelude.{◌==◌, nat_le, Ok, unwrap_or}
 use Rattle.std.specs.List.{AllByRecursion}
 use Rattle.std.specs.Option.{option_to_list}
 use Rattle.std.proofs.Math.Nat.{div-le_of_le-mul}
@@ -10,7 +10,6 @@ use Rattle.op_amount.specs.Prices.{price_with, terms_of, is_too_large, is_too_sm
 use Rattle.op_amount.specs.Rates.{floor_mul, ceil_div}
 use Rattle.op_amount.specs.declared.Amount.{Amount}
 use Rattle.op_amount.specs.declared.Priced.{Priced}
-use Rattle.op_amount.specs.declared.PriceFault.TheVariants as faults
 use Rattle.op_names.specs.declared.AddressName.{AddressName}
 use Rattle.op_names.specs.declared.RowName.{RowName}
 use Rattle.op_names.specs.declared.Kind.TheVariants as kinds
@@ -37,7 +36,7 @@ use Rattle.op_legal.proofs.Quoting.{price_is, priced_ok}
 use Rattle.op_legal.proofs.Values.{HasPriceValues, has_values, price_values, quote_values, direct_values}
 use Rattle.op_laws.proofs.Known.{all_known}
 use Rattle.op_laws.proofs.Lists.{each_at, or_right}
-use Rattle.op_laws.proofs.MakingActs.{AreGood, AreAddressed, IsAddress, quote_acts, direct_acts}
+use Rattle.op_laws.proofs.MakingActs.{AreGood, AreAddressed, IsAddress, not_small, not_none, quote_acts, direct_acts}
 use Rattle.op_outgoing.specs.Sound.{ArePriced}
 
 -- ---- pieces
@@ -63,19 +62,11 @@ has_pieces history n legal = pieces_where (assets history) n (nth (assets histor
 
 -- ---- a price that gives something
 
-not_small : (large small over : Bool) (room : ℕ) (p price : Priced) → cond large (Err faults.TooLarge) (cond small (Err faults.TooSmall) (cond over (Err (faults.OverReceiver room)) (Ok p))) ≡ Ok price → small ≡ false
-not_small true small over room p price h = absurd (let e : Err faults.TooLarge ≡ Ok price = h in cc)
-not_small false true over room p price h = absurd (let e : Err faults.TooSmall ≡ Ok price = h in cc)
-not_small false false over room p price h = refl
-
-not_none : (n : ℕ) → (n == 0) ≡ false → 0 < n
-not_none n h = grind (arith, nat_tests)
-
 gives : (fee : ℕ) (p : Pricing) (price : Priced) → priced fee p ≡ Ok price → 0 < price.receive
 gives fee p price h =
     let terms = terms_of fee p.rate p.mode in
     let small = not_small (is_too_large terms) (is_too_small terms) (is_over_receiver terms p.room) p.room terms price (priced_ok (price_with fee p.rate p.mode p.room) price h) in
-    subst (λ (x : Priced). 0 < x.receive) (price_is fee p price h) (not_none terms.receive (or_right (terms.source == 0) (terms.receive == 0) small))
+    subst (λ (x : Priced). 0 < x.receive) (price_is fee p price h) (not_none terms.receive (or_right (terms.source == 0) (terms.receive == 0) small.0))
 
 pub record IsPrice (price : Priced) : Type 0 where
   pub values : HasPriceValues price

@@ -18,7 +18,7 @@ use Rattle.op_model.specs.declared.reply.Refusal.TheVariants.{NotFound, AlreadyE
 use Rattle.op_model.specs.declared.request.Request.TheVariants as requests
 use Rattle.op_model.specs.declared.request.Verdict.{Verdict}
 use Rattle.op_model.proofs.Next.{addresses-next, position_from-append}
-use Rattle.op_plans.proofs.Found.{asset_found}
+use Rattle.op_legal.proofs.Names.{asset_found}
 use Rattle.op_plans.specs.Plans.{IsPlanned}
 use Rattle.op_plans.specs.declared.plan.Plan.TheVariants.{Refused, Told, Acts}
 use Rattle.op_plans.specs.Plans.{AreBased}

@@ -1,7 +1,7 @@
 use Rattle.std.proofs.Common.{◌≡◌, ℕ, List, Bool, true, false, Some, None, refl, if◌then◌else◌}
 use Rattle.std.specs.Str.{IsUtf8}
 use Rattle.op_amount.specs.Code.{is_asset_code}
-use Rattle.op_naming.proofs.CodeText.{code_is_text}
+use Rattle.op_amount.proofs.CodeText.{code_is_text}
 use Rattle.op_naming.proofs.added.code_of.Goals as goal
 
 no_code : (text : List ℕ) → (IsUtf8 text → ⊥) → (b : Bool) → is_asset_code text ≡ b → None ≡ (if b then Some text else None)
