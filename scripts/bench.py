@@ -1,8 +1,10 @@
 #!/usr/bin/env python3
 """What requests on a journal on disk cost. `wallet apply` adds COUNT assets, each by a request of its own, so that each is
-committed before its reply; then scripts/append.c makes the same commits of the same bytes with nothing around them. Fails
-where a reply is not the one that is due, where the journal does not open again, or where the two made different bytes or
-other calls than four a commit. Not part of the gate. Use: scripts/bench.py [COUNT [FOLDER]], 20000 where it is left out."""
+committed before its reply; then scripts/append.c makes the same commits of the same bytes with nothing around them. Then it
+reads COUNT requests for a quote, and COUNT for a grant, which it understands and answers 404 so far: that is what reading a
+request, understanding it, proving who asks, and printing a reply cost without a commit. Fails where a reply is not the one
+that is due, where the journal does not open again, or where the two made different bytes or other calls than four a commit.
+Not part of the gate. Use: scripts/bench.py [COUNT [FOLDER]], 20000 where it is left out."""
 import os
 import subprocess
 import sys
@@ -13,6 +15,21 @@ HERE = os.path.dirname(os.path.abspath(__file__))
 WALLET = os.path.join(HERE, "..", "bin", "wallet")
 LETTERS = "ABCDEFGHIJKLMNOPQRSTUVWXYZ"
 SCALES = 19
+
+
+# The target and the body of a request for a quote and for a grant, as docs/API.md shows them.
+QUOTE = (
+    "/quotes",
+    '{"walletAddress":"https://wallet.example/alice","receiver":"https://wallet.example/incoming-payments/'
+    '00000001-0000-8000-8000-000000000001","method":"ilp"}',
+)
+GRANT = (
+    "/grant",
+    '{"access_token":{"access":[{"type":"outgoing-payment","actions":["create","read"],"identifier":'
+    '"https://wallet.example/alice","limits":{"debitAmount":{"assetCode":"USD","assetScale":2,"value":"5000"},'
+    '"interval":"R12/2024-03-01T00:00:00Z/P1M"}}]},"client":"https://wallet.example/shop","interact":{"start":["redirect"],'
+    '"finish":{"method":"redirect","uri":"https://shop.example/done","nonce":"n"}}}',
+)
 
 
 class Failed(Exception):
@@ -88,6 +105,23 @@ def run_append(folder, count):
     return float(told[1]), float(told[2])
 
 
+def signed(target, body):
+    """A request of a client whose proof has the form of one and is none, so that it is compared to the end."""
+    fields = f"wallet-client: https://wallet.example/shop\r\nwallet-signature: {'0' * 64}\r\nauthorization: GNAP a{'0' * 32}-1\r\n"
+    return f"POST {target} HTTP/1.1\r\nhost: wallet.example\r\n{fields}content-length: {len(body)}\r\n\r\n{body}"
+
+
+def run_reading(folder, count, asked):
+    """The seconds that so many requests take which are read and understood, and not answered yet."""
+    requests = os.path.join(folder, "asked")
+    with open(requests, "w", encoding="ascii") as stream:
+        stream.write(signed(*asked) * count)
+    seconds, status, output = apply(os.path.join(folder, "unused"), requests)
+    must(status == 0, f"status {status}")
+    must(output.count(b"HTTP/1.1 404 ") == output.count(b"HTTP/1.1 ") == count, "a request is not understood")
+    return seconds
+
+
 def bench(folder, count):
     with open(os.path.join(folder, "requests"), "w", encoding="ascii") as requests:
         requests.writelines(map(request, range(count)))
@@ -98,6 +132,9 @@ def bench(folder, count):
     print(f"its memory:   at most {most / 1024:.1f} MiB")
     print(f"append.c:     the same commits in {alone:.2f} s, {count / alone:.0f} a second, {alone_in_syncs / alone:.1%} of it in fdatasync")
     print(f"outside fdatasync the wallet took {(seconds - in_syncs) / count * 1e6:.0f} microseconds a request")
+    for name, asked in ("a quote", QUOTE), ("a grant", GRANT):
+        seconds = run_reading(folder, count, asked)
+        print(f"reading:      {count} requests for {name} in {seconds:.2f} s, {seconds / count * 1e6:.0f} microseconds a request")
 
 
 def main():

@@ -10,6 +10,7 @@ use op_amount::TOP;
 use op_model::IncomingRow;
 use op_time::Moment;
 use std::alloc::AllocError;
+use thiserror::Error;
 
 /// Whether an act closed an incoming payment, and which.
 #[derive(Clone, Copy)]
@@ -28,18 +29,23 @@ pub struct Incoming {
 }
 
 /// Why an incoming payment is not made or not completed.
-#[derive(Clone, Copy, Debug, PartialEq, Eq)]
+#[derive(Clone, Copy, Debug, PartialEq, Eq, Error)]
 pub enum IncomingFault {
     /// The payment is not open.
+    #[error("the payment is not open")]
     AlreadyClosed,
     /// The amount is not in the address's asset. The assets of addresses are not known here, so no call of this crate
     /// answers it.
+    #[error("the amount is not in the asset of the address")]
     AssetMismatch,
     /// The expiry is not to come.
+    #[error("the expiry is not to come")]
     ExpiresInPast,
     /// The incoming amount is zero.
+    #[error("the incoming amount is zero")]
     ZeroAmount,
     /// There was no memory.
+    #[error("memory was wanting")]
     Memory,
 }
 

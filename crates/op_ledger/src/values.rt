@@ -1,6 +1,7 @@
 //! The values that a ledger keeps, takes and answers.
 
 use op_model::Account;
+use thiserror::Error;
 
 /// What is posted and held on an account, in smallest units of its asset. `Outside` stands below zero by what is
 /// posted on it: that is its asset's total.
@@ -24,10 +25,12 @@ pub struct Piece {
 }
 
 /// Why value is not moved or held.
-#[derive(Clone, Copy, Debug, PartialEq, Eq)]
+#[derive(Clone, Copy, Debug, PartialEq, Eq, Error)]
 pub enum LedgerFault {
     /// The account has less available than is asked for.
+    #[error("only {available} is available in the account")]
     Short { available: u64 },
     /// The asset's total would pass the largest value.
+    #[error("the total of the asset, which is {total}, would pass the largest value")]
     AssetFull { total: u64 },
 }

@@ -7,6 +7,7 @@ ghost use Rattle.serde_json.specs.Written.{has_float as has_float_of, items_have
 use serde_json::{Map, Value};
 use std::alloc::{AllocError, Global};
 use std::marker::Model;
+use thiserror::Error;
 
 /// The longest metadata, in bytes of its printed form.
 const METADATA_LIMIT: usize = 1024;
@@ -60,11 +61,13 @@ impl PageText {
 }
 
 /// Why bytes are no metadata.
-#[derive(Clone, Copy, Debug, Drop, PartialEq, Eq)]
+#[derive(Clone, Copy, Debug, Drop, PartialEq, Eq, Error)]
 pub enum MetaFault {
     /// They are not the printed form of metadata.
+    #[error("the bytes are not the printed form of metadata")]
     Shape,
     /// Want of memory.
+    #[error("memory was wanting")]
     Memory,
 }
 

@@ -23,20 +23,25 @@ use op_model::{FailReason, MetaText, OutgoingRow, QuoteRow, StepAnswer, Task, Te
 use op_time::Moment;
 use std::alloc::{AllocError, Global};
 use std::marker::Model;
+use thiserror::Error;
 
 /// How long a price stands, in milliseconds.
 const PRICE_LIFETIME: u64 = 300_000;
 
 /// Why a payment is not made or not cancelled.
-#[derive(Clone, Copy, Debug, PartialEq, Eq)]
+#[derive(Clone, Copy, Debug, PartialEq, Eq, Error)]
 pub enum OutgoingFault {
     /// A payment was made from this quote before.
+    #[error("a payment was made from this quote before")]
     QuoteUsed,
     /// The quote's expiry is reached.
+    #[error("the expiry of the quote is reached")]
     QuoteExpired,
     /// The payment is completed or failed.
+    #[error("the payment is completed or failed")]
     AlreadyEnded,
     /// There was no memory.
+    #[error("memory was wanting")]
     Memory,
 }
 
