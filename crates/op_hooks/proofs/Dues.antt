@@ -11,7 +11,7 @@ use Rattle.op_hooks.specs.Due.{is_due_at, is_open, attempt_of, tried_once}
 use Rattle.op_hooks.specs.Value.{EventsValue, attempted}
 use Rattle.op_hooks.specs.declared.event.Event.{Event}
 use Rattle.op_hooks.specs.declared.event.Tried.{Tried}
-use Rattle.op_hooks.proofs.Joint.{both}
+use Rattle.std.proofs.lemmas.Bool.{and_parts}
 
 open_if : (below : Bool) (last : Option Tried) (may due : Tried → Bool) (first : Bool) → ((tried : Tried) → due tried ≡ true → may tried ≡ true) → (below && option_map_or due last first) ≡ true → (below && option_map_or may last true) ≡ true
 open_if true None may due first each h = refl
@@ -22,7 +22,7 @@ open_if false last may due first each h = h
 pub open_where_due : (t : ℕ) (event : Event) → is_due_at t event ≡ true → is_open event ≡ true
 open_where_due t event h =
     open_if _ event.last (λ tried. not (is_taken tried.outcome)) (λ tried. not (is_taken tried.outcome) && nat_le (next_attempt event.tries (attempt_of tried)) t) _
-    (λ tried due. (both (not (is_taken tried.outcome)) (nat_le (next_attempt event.tries (attempt_of tried)) t) due).0) h
+    (λ tried due. (and_parts (not (is_taken tried.outcome)) (nat_le (next_attempt event.tries (attempt_of tried)) t) due).0) h
 
 -- the item of a number that is there
 pub place_of_some : {X : Type 0} (xs : List X) (n : ℕ) → IsTrue (is_some (nth xs n)) → n - 1 < length xs

@@ -1,9 +1,6 @@
 -- When the next attempt of an event is due. The delays and the limit are this project's own.
-use Rattle.std.specs.Prelude.{ℕ, ◌+◌, ◌-◌, ◌*◌, ◌^◌, Bool, true, not, ◌&&◌, nat_lt, nat_le, if◌then◌else◌, List, Some, None}
-use Rattle.std.specs.List.{filter_map}
+use Rattle.std.specs.Prelude.{ℕ, ◌+◌, ◌-◌, ◌*◌, ◌^◌, Bool, true, not, ◌&&◌, nat_lt, nat_le, None}
 use Rattle.std.specs.Option.{option_map_or}
-use Rattle.std.specs.declared.option.Option.{Option}
-use Rattle.op_model.specs.History.{numbered}
 use Rattle.op_model.specs.Events.{Attempt, is_taken, is_next_due, attempt_limit}
 use Rattle.op_model.specs.declared.row.EventRow.{EventRow}
 use Rattle.op_hooks.specs.declared.event.Event.{Event}
@@ -33,10 +30,3 @@ untried row = record { row = row; tries = 0; last = None }
 -- with one more attempt, made at t
 abbrev pub tried_once : ℕ → ℕ → Event → Event
 tried_once t outcome event = record event { tries = event.tries + 1; last = Some (record { at = t; outcome = outcome }) }
-
--- the numbers of the items that pass a test
-abbrev pub number_if : {X : Type 0} → (X → Bool) → ℕ × X → Option ℕ
-number_if test (n, x) = if test x then Some n else None
-
-abbrev pub numbers_where : {X : Type 0} → (X → Bool) → List X → List ℕ
-numbers_where test xs = filter_map (number_if test) (numbered xs)

@@ -3,7 +3,8 @@ use Rattle.std.specs.Prelude.{ℕ, ◌-◌, Bool, false, List, [], ◌∷◌, �
 use Rattle.std.specs.Option.{option_map_or, is_some}
 use Rattle.op_model.specs.History.{nth, with_item}
 use Rattle.op_model.specs.declared.row.EventRow.{EventRow}
-use Rattle.op_hooks.specs.Due.{is_due_at, numbers_where, untried, tried_once}
+use Rattle.op_hooks.specs.Due.{is_due_at, untried, tried_once}
+use Rattle.op_model.specs.Numbers.{numbers_where}
 use Rattle.op_hooks.specs.declared.event.Event.{Event}
 
 -- the events by number, from 1, and the room for more

@@ -21,7 +21,8 @@ pub struct Events {
 
 impl Model for Events {
     ghost use Rattle.std.specs.Prelude.{◌≡◌, ◌≤◌, ◌-◌, vec_len, vec_capacity};
-    ghost use Rattle.op_hooks.specs.Due.{is_open, numbers_where};
+    ghost use Rattle.op_hooks.specs.Due.{is_open};
+    ghost use Rattle.op_model.specs.Numbers.{numbers_where};
     ghost use Rattle.op_hooks.specs.Value.{EventsValue};
 
     ghost Value = { EventsValue };

@@ -6,7 +6,7 @@ use Rattle.op_model.specs.declared.request.Task.{Task}
 use Rattle.op_model.specs.declared.request.Task.TheVariants.{Expire}
 use Rattle.op_incoming.specs.Rows.{is_unfinished, is_due_at}
 use Rattle.op_incoming.specs.declared.incoming.Incoming.{Incoming}
-use Rattle.op_incoming.proofs.Numbers.{first_passing, all_passing}
+use Rattle.op_model.proofs.Numbers.{first_passing, all_passing}
 
 first_holds : (a b : Bool) → (a && b) ≡ true → a ≡ true
 first_holds true b h = refl

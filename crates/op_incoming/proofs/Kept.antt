@@ -11,12 +11,12 @@ use Rattle.op_model.specs.Incoming.{bound_of}
 use Rattle.op_model.specs.declared.row.IncomingRow.{IncomingRow}
 use Rattle.op_model.proofs.Items.{set_at_is_with_item}
 use Rattle.op_model.proofs.Next.{numbered_collected-next}
-use Rattle.op_incoming.specs.Numbers.{number_if, numbers_where}
+use Rattle.op_model.specs.Numbers.{number_if, numbers_where}
 use Rattle.op_incoming.specs.Rows.{has_row, is_unclosed, is_unfinished, received_by, bound_in, fresh, closed_as, with_received}
 use Rattle.op_incoming.specs.Within.{IsWithin, AreKept}
 use Rattle.op_incoming.specs.declared.incoming.Closing.{Closing}
 use Rattle.op_incoming.specs.declared.incoming.Incoming.{Incoming}
-use Rattle.op_incoming.proofs.Numbers.{numbers_where-stays, numbers_where-leaves}
+use Rattle.op_model.proofs.Numbers.{numbers_where-stays, numbers_where-leaves}
 use Rattle.op_incoming.proofs.Places.{place_of_some, nth_of_place}
 
 -- ---- one payment

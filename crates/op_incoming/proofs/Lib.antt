@@ -1,7 +1,6 @@
 pub mod Dues
 pub mod Kept
 pub mod ModelLemmas
-pub mod Numbers
 pub mod Places
 pub mod Sums
 mod WorkedRows

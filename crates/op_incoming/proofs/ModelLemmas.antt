@@ -9,7 +9,7 @@ use Rattle.op_model.specs.Work.{expiring}
 use Rattle.op_model.specs.declared.act.Entry.{Entry}
 use Rattle.op_model.specs.declared.request.Task.TheVariants.{Expire}
 use Rattle.op_incoming.specs.Models.{StandsAs, IsAsDefined, PaymentsAreDefined}
-use Rattle.op_incoming.specs.Numbers.{number_if, numbers_where}
+use Rattle.op_model.specs.Numbers.{number_if, numbers_where}
 use Rattle.op_incoming.specs.Rows.{is_unfinished, is_due_at}
 use Rattle.op_incoming.specs.declared.incoming.Incoming.{Incoming}
 

@@ -7,7 +7,7 @@ use Rattle.op_model.specs.Incoming.{bound_of}
 use Rattle.op_model.specs.declared.request.Task.{Task}
 use Rattle.op_model.specs.declared.request.Task.TheVariants.{Expire}
 use Rattle.op_model.specs.declared.row.IncomingRow.{IncomingRow}
-use Rattle.op_incoming.specs.Numbers.{numbers_where}
+use Rattle.op_model.specs.Numbers.{numbers_where}
 use Rattle.op_incoming.specs.declared.incoming.Closing.{Closing}
 use Rattle.op_incoming.specs.declared.incoming.Closing.TheVariants as closings
 use Rattle.op_incoming.specs.declared.incoming.Incoming.{Incoming}

@@ -2,7 +2,7 @@
 use Rattle.std.specs.Prelude.{ℕ, ◌≡◌, ◌*◌, ◌≤◌, ◌<◌, List, All}
 use Rattle.op_amount.specs.declared.TheConstants.{TOP}
 use Rattle.op_model.specs.Incoming.{bound_of}
-use Rattle.op_incoming.specs.Numbers.{numbers_where}
+use Rattle.op_model.specs.Numbers.{numbers_where}
 use Rattle.op_incoming.specs.Rows.{is_unfinished}
 use Rattle.op_incoming.specs.declared.incoming.Incoming.{Incoming}
 

@@ -11,7 +11,8 @@ use Rattle.op_model.specs.Shown.{path_of_address}
 use Rattle.op_model.specs.declared.act.Entry.{Entry}
 use Rattle.op_model.specs.declared.row.EventRow.{EventRow}
 use Rattle.op_model.proofs.Numbered.{nth-numbered}
-use Rattle.op_hooks.specs.Due.{is_due_at, attempt_of, number_if, numbers_where}
+use Rattle.op_hooks.specs.Due.{is_due_at, attempt_of}
+use Rattle.op_model.specs.Numbers.{number_if, numbers_where}
 use Rattle.op_hooks.specs.Value.{EventsValue, is_event_due_in, due_events}
 use Rattle.op_hooks.specs.declared.event.Event.{Event}
 use Rattle.op_noting.specs.Kept.{IsEventsOf, event_so_far, tried_of}

@@ -19,7 +19,7 @@ use Rattle.op_model.specs.declared.act.Entry.{Entry}
 use Rattle.op_model.proofs.Next.{addresses-next}
 use Rattle.op_model.proofs.Numbered.{all-append, nth_in}
 use Rattle.op_model.proofs.ReadNext.{origin_of-next}
-use Rattle.op_noting.proofs.Untried.{legal_induction}
+use Rattle.op_legal.proofs.Induction.{legal_induction}
 use Rattle.op_noting.specs.Laws.{NamesAreTexts}
 
 ascii_from : (test : ℕ → Bool) → ((b : ℕ) → test b ≡ true → b < 128) → (text : List ℕ) → list_all test text ≡ true → IsAscii text

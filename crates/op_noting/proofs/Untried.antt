@@ -1,32 +1,18 @@
 -- In a legal history an event that is not there was not tried.
-use Rattle.std.proofs.Common.{◌≡◌, ℕ, Bool, true, false, cond, List, [], ◌∷◌, ◌++◌, refl, sym, ap, subst, ◌∙◌, Some, None, Option, append-nil, append_assoc}
+use Rattle.std.proofs.Common.{◌≡◌, ℕ, Bool, true, false, cond, List, [], ◌∷◌, ◌++◌, refl, sym, ap, ◌∙◌, Some, None, Option}
 use Rattle.std.specs.Prelude.{◌==◌, is_some}
 use Rattle.std.specs.Option.{option_to_list}
 use Rattle.std.proofs.lemmas.Bool.{and_parts}
 use Rattle.op_model.specs.Events.{Attempt, events, events_added, event_row, attempts, attempt_of}
 use Rattle.op_model.specs.History.{nth}
-use Rattle.op_model.specs.Legal.{IsLegal, IsLegalFrom, IsNext, is_proper, is_outcome, asked_by}
+use Rattle.op_model.specs.Legal.{IsLegal, IsNext, is_proper, is_outcome, asked_by}
 use Rattle.op_model.specs.declared.act.Act.{Act}
 use Rattle.op_model.specs.declared.act.Act.TheVariants.{Attempted}
 use Rattle.op_model.specs.declared.act.Entry.{Entry}
 use Rattle.op_model.specs.declared.row.EventRow.{EventRow}
-use Rattle.op_model.proofs.LegalNext.{legal-next}
+use Rattle.op_legal.proofs.Induction.{legal_induction}
 use Rattle.op_model.proofs.Next.{attempts-next, events-next}
 use Rattle.op_model.proofs.Numbered.{nth-front, same_number}
-
--- ---- what an entry that may follow keeps, every legal history has
-
-abbrev pub IsKept : (List Entry → Type 0) → Type 0
-IsKept P = (history : List Entry) (e : Entry) → IsLegal history → IsNext history e → P history → P (history ++ e ∷ [])
-
-grows : (P : List Entry → Type 0) → IsKept P → (before xs : List Entry) → IsLegal before → P before → IsLegalFrom before xs → P (before ++ xs)
-grows P step before [] legal p rest = subst P (sym (append-nil before)) p
-grows P step before (x ∷ xs) legal p rest =
-    subst P (append_assoc before (x ∷ []) xs)
-    (grows P step (before ++ x ∷ []) xs ((legal-next before x).1 (legal, rest.0)) (step before x legal rest.0 p) rest.1)
-
-pub legal_induction : (P : List Entry → Type 0) → P [] → IsKept P → (history : List Entry) → IsLegal history → P history
-legal_induction P start step history legal = grows P step [] history tt start legal
 
 -- ---- events
 

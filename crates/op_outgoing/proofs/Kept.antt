@@ -4,8 +4,8 @@ use Rattle.std.specs.Prelude.{◌==◌, not, filter, slice_set, Some, None, is_s
 use Rattle.std.specs.Option.{option_to_list}
 use Rattle.std.specs.declared.option.Option.{Option}
 use Rattle.std.proofs.lemmas.List.Elements.{All-set, All-append, All-cons, All-nil}
-use Rattle.op_incoming.specs.Numbers.{number_if, numbers_where}
-use Rattle.op_incoming.proofs.Numbers.{numbers_where-stays, numbers_where-leaves}
+use Rattle.op_model.specs.Numbers.{number_if, numbers_where}
+use Rattle.op_model.proofs.Numbers.{numbers_where-stays, numbers_where-leaves}
 use Rattle.op_incoming.proofs.Places.{nth_of_place}
 use Rattle.op_model.specs.History.{nth}
 use Rattle.op_model.specs.declared.row.OutgoingRow.{OutgoingRow}

@@ -6,7 +6,7 @@ use Rattle.std.specs.Option.{option_map_or}
 use Rattle.std.proofs.lemmas.List.{length-map, length-take, map-append, take-map, take_more}
 use Rattle.std.proofs.lemmas.List.Elements.{filter-append}
 use Rattle.std.proofs.lemmas.Bool.Decides.{nat_tests}
-use Rattle.op_incoming.specs.Numbers.{number_if, numbers_where}
+use Rattle.op_model.specs.Numbers.{number_if, numbers_where}
 use Rattle.op_model.specs.History.{nth, last}
 use Rattle.op_model.specs.Work.{Running, step_task}
 use Rattle.op_model.specs.declared.request.Task.{Task}

@@ -2,7 +2,7 @@
 use Rattle.std.specs.Prelude.{ℕ, ◌≡◌, nat_lt, if◌then◌else◌, List, length, map, take, unwrap_or, All, Some, None}
 use Rattle.std.specs.List.{filter_map}
 use Rattle.std.specs.declared.option.Option.{Option}
-use Rattle.op_incoming.specs.Numbers.{numbers_where}
+use Rattle.op_model.specs.Numbers.{numbers_where}
 use Rattle.op_model.specs.History.{numbered, last}
 use Rattle.op_model.specs.Work.{Running, is_running, step_task}
 use Rattle.op_model.specs.declared.request.Task.{Task}

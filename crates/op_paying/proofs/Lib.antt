@@ -19,5 +19,4 @@ pub mod IncomingMoney
 pub mod Prices
 pub mod PaymentMoney
 pub mod AccountMoney
-pub mod Ceilings
 pub mod Kept

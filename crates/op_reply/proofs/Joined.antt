@@ -1,13 +1,6 @@
 -- Texts in several parts.
-use Rattle.std.proofs.Common.{◌≡◌, List, ℕ, ◌++◌, IfOk, Ok, Err, string_bytes, sym, ap, ◌∙◌, append_assoc}
-use Rattle.std.specs.Prelude.{String, Result, OnOk, is_ok, if◌then◌else◌}
-use Rattle.std.specs.declared.alloc.AllocError.{AllocError}
-use Rattle.std.specs.declared.alloc.Global.{Global}
-
--- a text of three parts, the last of them in other words
-pub three_parts : (made : Result (String Global) AllocError) (a b c d : List ℕ) → IfOk made (λ text. string_bytes text ≡ a ++ (b ++ c)) → c ≡ d → IfOk made (λ text. string_bytes text ≡ (a ++ b) ++ d)
-three_parts (Ok text) a b c d is e = is ∙ ap (λ x. a ++ (b ++ x)) e ∙ sym (append_assoc a b d)
-three_parts (Err error) a b c d is e = tt
+use Rattle.std.proofs.Common.{◌≡◌, List, ℕ, ◌++◌, Ok, Err, ap, ◌∙◌, append_assoc}
+use Rattle.std.specs.Prelude.{Result, OnOk, is_ok, if◌then◌else◌}
 
 -- one part more behind what was written so far
 pub and_then : (old new written part told : List ℕ) → new ≡ old ++ part → old ≡ written → part ≡ told → new ≡ written ++ told

@@ -1,7 +1,7 @@
 use Rattle.std.proofs.Common.{sym, subst}
 use Rattle.std.specs.Str.{IsUtf8}
 use Rattle.op_names.specs.declared.Id.{Id}
-use Rattle.op_hooks.proofs.IdTexts.{IsUtf8-id_text}
+use Rattle.op_names.proofs.AsciiTexts.{IsUtf8-id_text}
 use Rattle.op_hooks.proofs.messages.id.Goals as goal
 
 pub unreachable-requires : goal.unreachable-requires

@@ -3,10 +3,11 @@ use Rattle.std.specs.Prelude.{◌==◌, not, filter, slice_set, is_some, IsTrue}
 use Rattle.std.proofs.lemmas.Fn.{filter_same}
 use Rattle.op_model.specs.History.{nth, with_item}
 use Rattle.op_model.proofs.Items.{set_at_is_with_item}
-use Rattle.op_hooks.specs.Due.{is_open, numbers_where, tried_once}
+use Rattle.op_hooks.specs.Due.{is_open, tried_once}
+use Rattle.op_model.specs.Numbers.{numbers_where}
 use Rattle.op_hooks.specs.Value.{is_event_due_in}
 use Rattle.op_hooks.proofs.Dues.{place_of_some, nth_of_place, due_of_number, open_where_due, attempted_is}
-use Rattle.op_hooks.proofs.Numbers.{numbers_where-stays, numbers_where-leaves}
+use Rattle.op_model.proofs.Numbers.{numbers_where-stays, numbers_where-leaves}
 use Rattle.op_hooks.proofs.events.Events.attempted.Goals as goal
 
 pub index_mut-requires : goal.index_mut-requires
@@ -42,7 +43,7 @@ invariant_of-self-else-not-is_open c =
     let is : is_open (change c.index.result.now) ≡ true = ap is_open (sym c.tried_once-tried.ensures) ∙ sym c.is_open.ensures ∙ c.if-not-is_open.false in
     let due = subst (λ v. is_event_due_in v n c.args.t ≡ true) (sym c.self.view_is) (sym c.is_due.ensures ∙ c.if-not-is_due.false) in
     let was = open_where_due c.args.t c.index.result.now (due_of_number c.args.t kept.items n c.index.result.now found due) in
-    let stays = numbers_where-stays is_open change kept.items n c.index.result.now found was is in
+    let stays = numbers_where-stays is_open change kept.items n c.index.result.now found (is ∙ sym was) in
     (c.self.invariant.0 ∙ sym stays ∙ ap (numbers_where is_open) (sym written), c.self.invariant.1)
 
 pub returns-then-not-is_open-clause-done : goal.returns-then-not-is_open-clause-done

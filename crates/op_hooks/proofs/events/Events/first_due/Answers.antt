@@ -1,9 +1,10 @@
 use Rattle.std.proofs.Common.{refl, ap, ◌∙◌, take, arith}
 use Rattle.std.specs.Prelude.{filter}
-use Rattle.op_hooks.specs.Due.{is_due_at, is_open, numbers_where}
+use Rattle.op_hooks.specs.Due.{is_due_at, is_open}
+use Rattle.op_model.specs.Numbers.{numbers_where}
 use Rattle.op_hooks.specs.Value.{is_event_due_in}
 use Rattle.op_hooks.proofs.Dues.{open_where_due}
-use Rattle.op_hooks.proofs.Numbers.{filter-numbers_where, first_passing, all_passing}
+use Rattle.op_model.proofs.Numbers.{filter-numbers_where, first_passing, all_passing}
 use Rattle.op_hooks.proofs.events.Events.first_due.Goals as goal
 
 pub returns-then-len-room : goal.returns-then-len-room

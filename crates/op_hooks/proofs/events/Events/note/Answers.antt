@@ -1,7 +1,8 @@
 use Rattle.std.proofs.Common.{◌≡◌, ◌+◌, ◌∷◌, [], ◌++◌, sym, ap, ◌∙◌, length, arith}
 use Rattle.op_model.proofs.Next.{numbered_collected-next}
-use Rattle.op_hooks.specs.Due.{is_open, number_if, numbers_where, untried}
-use Rattle.op_hooks.proofs.Numbers.{length-numbers_where}
+use Rattle.op_hooks.specs.Due.{is_open, untried}
+use Rattle.op_model.specs.Numbers.{number_if, numbers_where}
+use Rattle.op_model.proofs.Numbers.{length-numbers_where}
 use Rattle.op_hooks.proofs.events.Events.note.Goals as goal
 
 pub push_reserved-requires : goal.push_reserved-requires

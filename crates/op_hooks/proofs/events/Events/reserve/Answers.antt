@@ -1,6 +1,6 @@
 use Rattle.std.proofs.Common.{ap, length, arith}
 use Rattle.op_hooks.specs.Due.{is_open}
-use Rattle.op_hooks.proofs.Numbers.{length-numbers_where}
+use Rattle.op_model.proofs.Numbers.{length-numbers_where}
 use Rattle.op_hooks.proofs.events.Events.reserve.Goals as goal
 
 pub overflow_sub-len : goal.overflow_sub-len

@@ -1,10 +1,10 @@
 use Rattle.std.proofs.Common.{refl, ap, ◌∙◌, map, take, arith}
 use Rattle.std.specs.Prelude.{filter}
 use Rattle.op_model.specs.declared.request.Task.TheVariants.{Expire}
-use Rattle.op_incoming.specs.Numbers.{numbers_where}
+use Rattle.op_model.specs.Numbers.{numbers_where}
 use Rattle.op_incoming.specs.Rows.{row_is, is_due_at, is_unfinished}
 use Rattle.op_incoming.proofs.Dues.{unfinished_where_due, first_tasks, all_tasks}
-use Rattle.op_incoming.proofs.Numbers.{filter-numbers_where}
+use Rattle.op_model.proofs.Numbers.{filter-numbers_where}
 use Rattle.op_incoming.proofs.incomings.Incomings.first_due.Goals as goal
 
 pub returns-then-len-room : goal.returns-then-len-room

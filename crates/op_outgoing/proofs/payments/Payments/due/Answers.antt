@@ -1,8 +1,8 @@
 use Rattle.std.proofs.Common.{◌≡◌, ◌<◌, [], ◌∷◌, ◌++◌, refl, ap, sym, ◌∙◌, map, take, length, length-append, get_or, unwrap_or, arith}
 use Rattle.std.specs.Prelude.{filter}
 use Rattle.std.proofs.lemmas.List.{length-map, take_all}
-use Rattle.op_incoming.specs.Numbers.{numbers_where}
-use Rattle.op_incoming.proofs.Numbers.{first_passing, all_passing}
+use Rattle.op_model.specs.Numbers.{numbers_where}
+use Rattle.op_model.proofs.Numbers.{first_passing, all_passing}
 use Rattle.op_model.specs.History.{last}
 use Rattle.op_model.specs.declared.request.Task.TheVariants.{Step}
 use Rattle.op_outgoing.specs.Progress.{is_alive}

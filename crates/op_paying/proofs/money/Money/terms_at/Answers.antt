@@ -1,6 +1,6 @@
 use Rattle.std.proofs.Common.{ℕ, ◌∙◌, ap}
 use Rattle.op_amount.specs.Rates.{ceil_div}
-use Rattle.op_paying.proofs.Ceilings.{div_ceil_is}
+use Rattle.op_amount.proofs.Ceilings.{div_ceil_is}
 use Rattle.op_model.specs.Payments.{payee_of}
 use Rattle.op_model.specs.declared.row.Terms.{Terms}
 use Rattle.op_paying.proofs.money.Money.terms_at.Goals as goal

@@ -9,7 +9,7 @@ use Rattle.std.specs.Option.{option_map_or}
 use Rattle.std.proofs.lemmas.Bool.{cases_Bool}
 use Rattle.std.proofs.lemmas.Bool.Decides.{nat_tests}
 use Rattle.op_model.specs.History.{nth, changed_at, with_item}
-use Rattle.op_hooks.specs.Due.{number_if, numbers_where}
+use Rattle.op_model.specs.Numbers.{number_if, numbers_where}
 
 -- ---- those that pass, of those that may pass
 
@@ -68,11 +68,11 @@ all_kept : (xs : List ℕ) → filter (λ _. true) xs ≡ xs
 all_kept [] = refl
 all_kept (x ∷ xs) = ap (λ ys. x ∷ ys) (all_kept xs)
 
--- an item that passes, and still does
-pub numbers_where-stays : {X : Type 0} (test : X → Bool) (change : X → X) (xs : List X) (n : ℕ) (x : X) → nth xs n ≡ Some x → test x ≡ true → test (change x) ≡ true → numbers_where test (with_item change xs n) ≡ numbers_where test xs
-numbers_where-stays test change xs n x found was is =
+-- an item that passes as it did
+pub numbers_where-stays : {X : Type 0} (test : X → Bool) (change : X → X) (xs : List X) (n : ℕ) (x : X) → nth xs n ≡ Some x → test (change x) ≡ test x → numbers_where test (with_item change xs n) ≡ numbers_where test xs
+numbers_where-stays test change xs n x found same =
     changed_from test (λ _. true) change n 1 xs
-    (λ i y got. at_change test (λ _. true) change n (1 + i) y (λ number. let e = item_at xs n i x y found number got in rw (e, was) is) (λ _. refl))
+    (λ i y got. at_change test (λ _. true) change n (1 + i) y (λ number. let e = item_at xs n i x y found number got in rw e same) (λ _. refl))
     ∙ all_kept (numbers_where test xs)
 
 -- an item that passes no more
