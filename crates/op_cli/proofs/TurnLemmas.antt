@@ -11,7 +11,7 @@ use Rattle.op_ports.specs.Sink.{AppendsFront}
 use Rattle.op_ports.specs.Words.{DrawsKnown}
 use Rattle.op_session.specs.Built.{meant_so_far}
 use Rattle.op_model.specs.Printed.{printed}
-use Rattle.op_model.specs.Requests.{Raw, BeginsWithNoRequest}
+use Rattle.op_model.specs.Requests.{Raw, BeginsWithNoRequest, head_limit, body_limit}
 use Rattle.op_model.specs.Round.{FeesAllowed, refusal_reply}
 use Rattle.op_model.specs.Verdicts.{verdict_of}
 use Rattle.op_model.specs.declared.act.Entry.{Entry}
@@ -241,5 +241,5 @@ unread_stops allows old h h' w left' written' end http.ReadFault (same, none) (i
 unread_stops allows old h h' w left' written' end http.Memory same (is, kept) =
     subst (λ (e : End). Stops allows (here old h w) (record { left = left'; answers = w.answers; words = w.words; written = written'; accepts = w.accepts }) e (settled old)) (sym is) (no_memory allows old h h' w left' written' same kept)
 
-pub takes_short : (h h' : Held) (left left' : Option (List ℕ)) (raw : Raw) → Takes h h' left left' raw → h'.at ≤ h.at + 81920
+pub takes_short : (h h' : Held) (left left' : Option (List ℕ)) (raw : Raw) → Takes h h' left left' raw → h'.at ≤ h.at + (head_limit + body_limit)
 takes_short h h' left left' raw takes = omega (arith, takes.at, takes.limit)

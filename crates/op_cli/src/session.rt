@@ -12,6 +12,7 @@ ghost use Rattle.op_model.specs.Legal.{is_proper};
 ghost use Rattle.op_model.specs.declared.act.Entry.{Entry};
 ghost use Rattle.op_session.specs.Built.{meant_so_far};
 ghost use Rattle.op_model.specs.Printed.{printed};
+ghost use Rattle.op_model.specs.Requests.{head_limit, body_limit};
 ghost use Rattle.op_model.specs.Round.{refusal_reply};
 ghost use Rattle.op_model.specs.Verdicts.{verdict_of};
 ghost use Rattle.op_model.specs.declared.request.Task.TheVariants.{Ask};
@@ -323,7 +324,7 @@ fn turn<D: Disk, S: Source, K: Sink, C: Clock, W: Words, V: Verifier, F: FeeRule
         (here (with_entries stood entries) reader.new (world_of S.Source C.Clock W.Words K.Sink V.Verifier outside.new)))) }
     ensures ready { OnOk result (IsReady D.Disk desk.new outside.new.disk) }
     ensures err { IfErr result (λ end. EndsBy D.Disk (history_at desk.old) outside.old.disk outside.new.disk (λ stood final. Stops F.FeeTerms.allows (here stood reader.old (world_of S.Source C.Clock W.Words K.Sink V.Verifier outside.old)) (world_of S.Source C.Clock W.Words K.Sink V.Verifier outside.new) end final)) }
-    ensures moved { OnOk result (reader.new.at ≤ reader.old.at + 81920) }
+    ensures moved { OnOk result (reader.new.at ≤ reader.old.at + (head_limit + body_limit)) }
     ensures causes { HasCauses D.Disk S.Source K.Sink W.Words outside.old outside.new (IsErrOf result) }
 {
     match reader.next(alloc, &mut outside.source) {

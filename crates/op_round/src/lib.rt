@@ -13,6 +13,8 @@ mod plain;
 mod prepare;
 mod prepared;
 mod round;
+#[cfg(test)]
+mod tests;
 
 pub use book::{Book, Named};
 pub use built::prepare_built;

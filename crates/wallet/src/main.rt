@@ -5,7 +5,6 @@ ghost use Rattle.std.specs.Prelude.{◌≡◌, ◌≢◌, ◌↔◌, ◌⊎◌, 
 ghost use Rattle.std.specs.Vec.Iter.{into_iter_items};
 ghost use Rattle.std.specs.IoError.{error_kind};
 ghost use Rattle.std.specs.declared.io.ErrorKind.TheVariants.{InvalidData};
-ghost use Rattle.op_access.specs.Proof.{master_of};
 ghost use Rattle.op_session.specs.Program.{is_command};
 ghost use Rattle.op_session.specs.declared.end.End.TheVariants.{OutOfMemory};
 ghost use Rattle.op_session.specs.declared.status.Status.TheVariants.{Ended};
@@ -14,7 +13,7 @@ ghost use Rattle.wallet.specs.Words.{journal_of};
 
 mod master;
 
-use master::{MasterFault, master_secret};
+use master::{MasterFault, master_verifier};
 use op_access::HmacVerifier;
 use op_cli::{Outside, wallet_main};
 use op_disk::FileDisk;
@@ -75,8 +74,8 @@ fn status_without_words(fault: &io::Error) -> Status
 
 /// The command, where the environment holds a master secret.
 fn start(rt: &HostRuntime, words: &[String]) -> Status {
-    match master_secret(rt) {
-        Ok(master) => run(rt, words, master),
+    match master_verifier(rt) {
+        Ok(verifier) => run(rt, words, verifier),
         Err(fault) => status_without_master(fault),
     }
 }
@@ -93,21 +92,21 @@ fn status_without_master(fault: MasterFault) -> Status
 }
 
 /// The command over the edges of this runtime.
-fn run(rt: &HostRuntime, words: &[String], master: [u8; 32]) -> Status
+fn run(rt: &HostRuntime, words: &[String], verifier: HmacVerifier) -> Status
     ensures usage { result ≡ Status.Usage → is_command (map string_bytes words.now) ≡ false }
     ensures usage_where { is_command (map string_bytes words.now) ≡ false → (result ≡ Status.Usage) ⊎ (result ≡ Ended OutOfMemory) }
 {
     let Ok(journal) = journal_name(rt.alloc(), words) else {
         return Status::Ended(End::OutOfMemory);
     };
-    wallet_main(rt.alloc(), words, &mut edges(rt, journal, master))
+    wallet_main(rt.alloc(), words, &mut edges(rt, journal, verifier))
 }
 
-/// The journal's file, standard input, standard output, the system's clock, its random bytes, the key proofs under this
-/// master secret, and the fee rule: the amount divided by 100, rounded up. The file is opened at the first call on it. No
-/// reply depends on a key proof or on a fee so far.
-fn edges(rt: &HostRuntime, journal: String, master: [u8; 32]) -> Edges<'_>
-    ensures verifier { master_of result.verifier ≡ master }
+/// The journal's file, standard input, standard output, the system's clock, its random bytes, this verifier of key proofs,
+/// and the fee rule: the amount divided by 100, rounded up. The file is opened at the first call on it. No reply depends on
+/// a key proof or on a fee so far.
+fn edges(rt: &HostRuntime, journal: String, verifier: HmacVerifier) -> Edges<'_>
+    ensures verifier { result.verifier ≡ verifier }
     ensures journal { path_of result.disk ≡ string_bytes journal }
 {
     Outside {
@@ -116,7 +115,7 @@ fn edges(rt: &HostRuntime, journal: String, master: [u8; 32]) -> Edges<'_>
         sink: WriteSink::new(io::writer(rt)),
         clock: SystemClock::new(rt),
         draws: SystemWords::new(rt),
-        verifier: HmacVerifier::new(master),
+        verifier,
         hook: PriceHook::keep(OnePercent),
     }
 }

@@ -1,10 +1,12 @@
 //! The master secret, from which the key of each client is made.
-ghost use Rattle.std.specs.Prelude.{◌≡◌, ◌↔◌, IfOk, IsSome, length, ok_or, replicate, string_bytes};
+ghost use Rattle.std.specs.Prelude.{◌≡◌, ◌↔◌, IfErr, IfOk, IsSome, length, ok_or, replicate, string_bytes};
 ghost use Rattle.std.specs.List.{AllPass};
 ghost use Rattle.std.specs.Result.{result_ok};
 ghost use Rattle.hex.specs.Hex.{decode_sized, is_hex_digit};
+ghost use Rattle.op_access.specs.Proof.{master_of};
 
 use hex::FromHex;
+use op_access::HmacVerifier;
 use std::env;
 use std::env::VarError;
 use std::rt::Env;
@@ -24,10 +26,18 @@ pub enum MasterFault {
     Memory,
 }
 
-/// The master secret: the 32 bytes whose hexadecimal digits, in either case, the environment variable
-/// `OP_WALLET_MASTER` holds, or 32 zero bytes where it is not set.
-pub fn master_secret<R: Env + AllocGlobal>(rt: &R) -> Result<[u8; 32], MasterFault> {
-    secret_of(env::var(rt, VARIABLE))
+/// The verifier of key proofs under the master secret: the 32 bytes whose hexadecimal digits, in either case, the
+/// environment variable `OP_WALLET_MASTER` holds, or 32 zero bytes where it is not set. The secret itself is not handed on.
+pub fn master_verifier<R: Env + AllocGlobal>(rt: &R) -> Result<HmacVerifier, MasterFault> {
+    verifier_of(secret_of(env::var(rt, VARIABLE)))
+}
+
+/// The verifier of a master secret, if there is one.
+fn verifier_of(secret: Result<[u8; 32], MasterFault>) -> Result<HmacVerifier, MasterFault>
+    ensures ok { IfOk result (λ verifier. secret ≡ Ok (master_of verifier)) }
+    ensures err { IfErr result (λ fault. secret ≡ Err fault) }
+{
+    Ok(HmacVerifier::new(secret?))
 }
 
 /// The master secret where the environment answers this for the variable.
