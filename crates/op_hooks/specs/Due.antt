@@ -1,5 +1,5 @@
 -- When the next attempt of an event is due. The delays and the limit are this project's own.
-use Rattle.std.specs.Prelude.{ℕ, ◌+◌, ◌-◌, ◌*◌, ◌^◌, Bool, true, not, ◌&&◌, nat_lt, nat_le, None}
+use Rattle.std.specs.Prelude.{ℕ, ◌+◌, ◌-◌, ◌*◌, ◌^◌, Bool, true, not, ◌&&◌, nat_lt, nat_le, Some, None}
 use Rattle.std.specs.Option.{option_map_or}
 use Rattle.op_model.specs.Events.{Attempt, is_taken, is_next_due, attempt_limit}
 use Rattle.op_model.specs.declared.row.EventRow.{EventRow}
