@@ -148,3 +148,11 @@ quote_fits history t grant q metadata next =
     let is : acts.OutgoingMade who.0.grant row.0.number metadata ≡ acts.OutgoingMade grant q metadata = some_is (acts.OutgoingMade who.0.grant row.0.number metadata) act past.1 in
     let same : row.0.number ≡ q = cc in
     quote_at history t row.0.number q row.0.row same (found_there (quote_row history) (row_named history kinds.Quote quote) row.0 row.1).1 unpaid.0 (below t row.0.row.expiry past.0)
+
+-- ---- metadata
+
+pub payment_formed : (history : List Entry) (t grant q : ℕ) (metadata : Option (List ℕ)) → IsNext history (record { at = t; act = acts.OutgoingMade grant q metadata }) → passes is_metadata metadata ≡ true
+payment_formed history t grant q metadata next = both_right true (passes is_metadata metadata) next.proper
+
+pub direct_formed : (history : List Entry) (t grant address incoming debit source fee receive num den : ℕ) (metadata : Option (List ℕ)) → IsNext history (record { at = t; act = acts.OutgoingDirect grant address incoming debit source fee receive num den metadata }) → passes is_metadata metadata ≡ true
+direct_formed history t grant address incoming debit source fee receive num den metadata next = both_right _ (passes is_metadata metadata) next.proper

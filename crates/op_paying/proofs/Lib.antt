@@ -20,3 +20,7 @@ pub mod Prices
 pub mod PaymentMoney
 pub mod AccountMoney
 pub mod Kept
+pub mod Refusals
+pub mod Due
+pub mod BalanceAnswers
+pub mod KeptRows

@@ -1,18 +1,20 @@
 -- Quotes and payments that are made, on money that is its history's.
-use Rattle.std.proofs.Common.{◌≡◌, ℕ, false, List, [], ◌∷◌, ◌++◌, ◌∙◌, sym, ap, subst, Some}
+use Rattle.std.proofs.Common.{◌≡◌, ℕ, false, List, [], ◌∷◌, ◌++◌, refl, ◌∙◌, sym, ap, subst, Some, Option}
+use Rattle.std.specs.Option.{option_map, option_map_or, option_to_list}
 use Rattle.op_incoming.specs.declared.incoming.Incoming.{Incoming}
 use Rattle.op_laws.proofs.Known.{all_known}
 use Rattle.op_laws.proofs.Renewed.{made_rows, made_held}
 use Rattle.op_ledger.specs.Balances.{LedgerValue}
 use Rattle.op_model.specs.Legal.{IsNext}
 use Rattle.op_model.specs.History.{nth}
-use Rattle.op_model.specs.Payments.{PaymentMade, outgoings, quotes, quote_row, quote_added, payment_added, incomings, incoming_made, is_step}
+use Rattle.op_model.specs.Payments.{PaymentMade, outgoings, quotes, quote_row, quote_added, made_from_quote, payment_added, incomings, incoming_made, is_step}
+use Rattle.op_model.specs.declared.act.Act.TheVariants as acts
 use Rattle.op_model.specs.declared.act.Entry.{Entry}
 use Rattle.op_model.specs.declared.row.OutgoingRow.{OutgoingRow}
 use Rattle.op_model.specs.declared.row.QuoteRow.{QuoteRow}
 use Rattle.op_model.proofs.Next.{incomings-next, quotes-next}
 use Rattle.op_model.proofs.SumsNext.{received_made}
-use Rattle.op_outgoing.specs.Value.{OutgoingsValue, with_quote, with_made, fresh_row}
+use Rattle.op_outgoing.specs.Value.{OutgoingsValue, with_quote, with_made, with_fresh, fresh_row}
 use Rattle.op_paying.specs.Ledgers.{StandsAs}
 use Rattle.op_paying.specs.Money.{AreIncomings, IsMoneyOf}
 use Rattle.op_paying.specs.declared.money.Money.{Money}
@@ -66,3 +68,15 @@ payment_money history e old new made is next names no_incoming no_quote still ad
 
 pub quote_kept : (history : List Entry) (money : Money) (q : ℕ) (row : QuoteRow) → IsMoneyOf history money → quote_row history q ≡ Some row → nth money.outgoings.quotes q ≡ Some row
 quote_kept history money q row is there = ap (λ (l : List QuoteRow). nth l q) is.quotes_are ∙ there
+
+-- ---- a payment from a quote
+
+pub from_quote_money : (history : List Entry) (t grant q : ℕ) (metadata : Option (List ℕ)) (old new : Money) (quote : QuoteRow) → IsMoneyOf history old → IsNext history (record { at = t; act = acts.OutgoingMade grant q metadata }) → quote_row history q ≡ Some quote
+    → OnlyOutgoings old new (with_fresh old.outgoings t q grant metadata) → IsMoneyOf (history ++ record { at = t; act = acts.OutgoingMade grant q metadata } ∷ []) new
+from_quote_money history t grant q metadata old new quote is next there only =
+    let behind : with_fresh old.outgoings t q grant metadata ≡ with_made old.outgoings (made_from_quote t grant q metadata quote) =
+    ap (λ (o : Option QuoteRow). option_map_or (λ row. with_made old.outgoings (made_from_quote t grant q metadata row)) o old.outgoings) (quote_kept history old q quote is there) in
+    payment_money history (record { at = t; act = acts.OutgoingMade grant q metadata }) old new (made_from_quote t grant q metadata quote) is next
+    (record { asset = refl; address = refl }) (record { incoming = λ u. refl; closes = λ i. refl; completes = λ i. refl }) (λ s u. refl) (λ s f. refl)
+    (ap (λ (o : Option QuoteRow). option_to_list (option_map (made_from_quote t grant q metadata) o)) there) (λ p. refl)
+    (record { outgoings_are = only.outgoings_are ∙ behind; ledger_is = only.ledger_is; incomings_are = only.incomings_are; pieces_are = only.pieces_are; counted = only.counted })

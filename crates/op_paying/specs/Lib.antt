@@ -1,3 +1,4 @@
+pub mod Balances
 pub mod Ledgers
 pub mod Money
 pub mod Taking

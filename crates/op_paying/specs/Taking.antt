@@ -1,5 +1,7 @@
 -- Taking an entry: the money of any history that it may follow becomes that of the longer one.
-use Rattle.std.specs.Prelude.{◌+◌, ◌<◌, ◌^◌, Bool, true, false, List, [], ◌∷◌, ◌++◌, length}
+use Rattle.std.specs.Prelude.{◌+◌, ◌<◌, ◌^◌, Bool, true, false, List, [], ◌∷◌, ◌++◌, length, Some, None}
+use Rattle.std.specs.declared.option.Option.{Option}
+use Rattle.op_amount.specs.declared.Priced.{Priced}
 use Rattle.op_model.specs.History.{assets, addresses}
 use Rattle.op_model.specs.Legal.{IsNext}
 use Rattle.op_model.specs.declared.act.Act.{Act}
@@ -32,11 +34,20 @@ makes_rows (acts.OutgoingMade grant quote metadata) = true
 makes_rows (acts.OutgoingDirect grant address incoming debit source fee receive num den metadata) = true
 makes_rows _ = false
 
--- an act that records a price
-abbrev pub records_price : Act → Bool
-records_price (acts.QuoteMade grant address incoming mode asked debit source fee receive num den) = true
-records_price (acts.OutgoingDirect grant address incoming debit source fee receive num den metadata) = true
-records_price _ = false
+-- an act that makes a quote or an outgoing payment
+abbrev pub makes_payment : Act → Bool
+makes_payment (acts.QuoteMade grant address incoming mode asked debit source fee receive num den) = true
+makes_payment (acts.OutgoingMade grant quote metadata) = true
+makes_payment (acts.OutgoingDirect grant address incoming debit source fee receive num den metadata) = true
+makes_payment _ = false
+
+-- the price that an act records
+abbrev pub price_in : Act → Option Priced
+price_in (acts.QuoteMade grant address incoming mode asked debit source fee receive num den) =
+    Some (record { debit = debit; source = source; fee = fee; receive = receive; num = num; den = den })
+price_in (acts.OutgoingDirect grant address incoming debit source fee receive num den metadata) =
+    Some (record { debit = debit; source = source; fee = fee; receive = receive; num = num; den = den })
+price_in _ = None
 
 -- an act that leaves all money as it is
 abbrev pub leaves_money : Act → Bool

@@ -3,10 +3,14 @@
 #![tactic(auto)]
 
 mod accounts;
+mod balances;
 mod making;
 mod money;
 mod payments;
 mod receiving;
+mod rows;
+mod taking;
 mod terms;
 
 pub use money::Money;
+pub use terms::Parties;

@@ -12,23 +12,30 @@ use op_amount::Priced;
 use op_ledger::Ledger;
 use op_model::{Account, Terms};
 
+/// Who pays what: the address that pays, and the incoming payment that it pays.
+#[derive(Clone, Copy)]
+pub struct Parties {
+    pub address: u32,
+    pub incoming: u64,
+}
+
 impl Money {
     /// The terms of a price, from an address to an incoming payment.
-    pub fn terms_at(&self, address: u32, incoming: u64, price: Priced) -> Terms
+    pub fn terms_at(&self, parties: Parties, price: Priced) -> Terms
         requires { HasHistory self.now }
-        ensures { (history : List AnyEntry) → IsMoneyOf history self.now → result ≡ terms_at history address incoming price }
+        ensures { (history : List AnyEntry) → IsMoneyOf history self.now → result ≡ terms_at history parties.address parties.incoming price }
     {
         Terms {
-            payer: address,
-            payee: self.payee_of(incoming),
-            incoming,
+            payer: parties.address,
+            payee: self.payee_of(parties.incoming),
+            incoming: parties.incoming,
             debit: price.debit,
             source: price.source,
             fee: price.fee,
             receive: price.receive,
             num: price.num,
             den: price.den,
-            piece: price.source.div_ceil(self.pieces_of(address)),
+            piece: price.source.div_ceil(self.pieces_of(parties.address)),
         }
     }
 

@@ -17,16 +17,16 @@ add_direct-requires c =
     let can = c.requires.can in
     let e = c.args.entry.now in
     let price = c.args.price in
-    let act = acts.OutgoingDirect c.args.grant c.args.address c.args.incoming price.debit price.source price.fee price.receive price.num price.den c.args.metadata in
+    let act = acts.OutgoingDirect c.args.grant c.args.parties.address c.args.parties.incoming price.debit price.source price.fee price.receive price.num price.den c.args.metadata in
     subst ArePriced (sym (c.terms_at-terms.ensures can.history can.is))
-    (direct_terms can.history e.at c.args.grant c.args.address c.args.incoming price.debit price.source price.fee price.receive price.num price.den c.args.metadata can.is.legal (with_act (IsNext can.history) e act c.requires.is can.next))
+    (direct_terms can.history e.at c.args.grant c.args.parties.address c.args.parties.incoming price.debit price.source price.fee price.receive price.num price.den c.args.metadata can.is.legal (with_act (IsNext can.history) e act c.requires.is can.next))
 
 pub returns-clause-ok : goal.returns-clause-ok
 returns-clause-ok c history is next =
     let old = c.args.self.now in
     let e = c.args.entry.now in
     let price = c.args.price in
-    let act = acts.OutgoingDirect c.args.grant c.args.address c.args.incoming price.debit price.source price.fee price.receive price.num price.den c.args.metadata in
+    let act = acts.OutgoingDirect c.args.grant c.args.parties.address c.args.parties.incoming price.debit price.source price.fee price.receive price.num price.den c.args.metadata in
     let made : Terms → PaymentMade = λ terms. made_directly e.at c.args.grant c.args.metadata terms in
     let new : Money = record { ledger = old.ledger; incomings = old.incomings; outgoings = c.add_direct.new.self; pieces = old.pieces; addresses = old.addresses } in
     of_act (λ (x : Entry). IsMoneyOf (history ++ x ∷ []) new) e act c.requires.is

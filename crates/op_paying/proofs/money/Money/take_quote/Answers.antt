@@ -21,9 +21,9 @@ add_quote-requires c =
     let price = c.args.price in
     let mode = c.requires.is.0 in
     let asked = c.requires.is.1 in
-    let act = acts.QuoteMade c.args.grant c.args.address c.args.incoming mode asked price.debit price.source price.fee price.receive price.num price.den in
+    let act = acts.QuoteMade c.args.grant c.args.parties.address c.args.parties.incoming mode asked price.debit price.source price.fee price.receive price.num price.den in
     subst ArePriced (sym (c.terms_at.ensures can.history can.is))
-    (quote_terms can.history e.at c.args.grant c.args.address c.args.incoming mode asked price.debit price.source price.fee price.receive price.num price.den can.is.legal (with_act (IsNext can.history) e act c.requires.is.2 can.next))
+    (quote_terms can.history e.at c.args.grant c.args.parties.address c.args.parties.incoming mode asked price.debit price.source price.fee price.receive price.num price.den can.is.legal (with_act (IsNext can.history) e act c.requires.is.2 can.next))
 
 pub returns-clause-ok : goal.returns-clause-ok
 returns-clause-ok c history is next =
@@ -32,7 +32,7 @@ returns-clause-ok c history is next =
     let price = c.args.price in
     let mode = c.requires.is.0 in
     let asked = c.requires.is.1 in
-    let act = acts.QuoteMade c.args.grant c.args.address c.args.incoming mode asked price.debit price.source price.fee price.receive price.num price.den in
+    let act = acts.QuoteMade c.args.grant c.args.parties.address c.args.parties.incoming mode asked price.debit price.source price.fee price.receive price.num price.den in
     let row : ℕ → Terms → QuoteRow = λ expiry terms. record { grant = c.args.grant; made = e.at; expiry = expiry; terms = terms } in
     let ends : c.at_most_last.result ≡ lifetime_end e.at price_lifetime = c.at_most_last.ensures ∙ ap (λ n. min (n + 300000) 253402300799999) c.ms.ensures.value in
     let new : Money = record { ledger = old.ledger; incomings = old.incomings; outgoings = c.add_quote.new.self; pieces = old.pieces; addresses = old.addresses } in

@@ -9,9 +9,9 @@ pub returns : goal.returns
 returns c history is =
     let price = c.args.price in
     let terms : ℕ → ℕ → Terms = λ payee piece. record {
-      payer = c.args.address;
+      payer = c.args.parties.address;
       payee = payee;
-      incoming = c.args.incoming;
+      incoming = c.args.parties.incoming;
       debit = price.debit;
       source = price.source;
       fee = price.fee;
@@ -22,4 +22,4 @@ returns c history is =
     } in
     let rounded = div_ceil_is price.source c.pieces_of.result c.pieces_of.ensures.some in
     ap (λ n. terms n c.div_ceil.result) (c.payee_of.ensures history is)
-    ∙ ap (terms (payee_of history c.args.incoming)) (c.div_ceil.ensures ∙ rounded ∙ ap (ceil_div price.source) (c.pieces_of.ensures.value history is))
+    ∙ ap (terms (payee_of history c.args.parties.incoming)) (c.div_ceil.ensures ∙ rounded ∙ ap (ceil_div price.source) (c.pieces_of.ensures.value history is))
