@@ -26,14 +26,14 @@ IsPlan history t word fee request verdict (Acts act body) =
 abbrev pub IsPlanned : List Entry → Request → Plan → Type 0
 IsPlanned history request plan = (t : ℕ) (word : List ℕ) (fee : ℕ) (verdict : Verdict) → IsPlan history t word fee request verdict plan
 
--- the requests that are built so far
-abbrev pub is_built_request : Request → Bool
-is_built_request (requests.SetOrigin origin) = true
-is_built_request (requests.AddAsset asset pieces) = true
-is_built_request (requests.AddAddress path asset name) = true
-is_built_request (requests.SetRate source target rate) = true
-is_built_request (requests.ReadAddress path) = true
-is_built_request _ = false
+-- the provider's requests on origin, assets, addresses and rates, and reading an address
+abbrev pub is_provider_request : Request → Bool
+is_provider_request (requests.SetOrigin origin) = true
+is_provider_request (requests.AddAsset asset pieces) = true
+is_provider_request (requests.AddAddress path asset name) = true
+is_provider_request (requests.SetRate source target rate) = true
+is_provider_request (requests.ReadAddress path) = true
+is_provider_request _ = false
 
 -- each address has an asset that is there
 abbrev pub AreBased : List Entry → Type 0

@@ -3,7 +3,7 @@
 ghost use Rattle.std.specs.Prelude.{List, IfOk, IsTrue};
 ghost use Rattle.op_model.specs.declared.act.Entry.{Entry};
 ghost use Rattle.op_naming.specs.Names.{AreNames};
-ghost use Rattle.op_plans.specs.Plans.{IsPlanned, AreBased, is_built_request};
+ghost use Rattle.op_plans.specs.Plans.{IsPlanned, AreBased, is_provider_request};
 
 use crate::plan::Plan;
 use crate::provider::{
@@ -13,9 +13,9 @@ use op_model::Request;
 use op_naming::Names;
 use std::alloc::{AllocError, Global};
 
-/// What is to come of a request that is built.
+/// What is to come of a request of the provider on origin, assets, addresses or rates, or of one that reads an address.
 pub fn plan_request(alloc: Global, names: &Names, request: &Request) -> Result<Plan, AllocError>
-    requires { IsTrue (is_built_request request.now) }
+    requires { IsTrue (is_provider_request request.now) }
     ensures { IfOk result (λ plan. (history : List Entry) → AreNames history names.now → AreBased history → IsPlanned history request.now plan) }
 {
     match request {

@@ -1,0 +1,10 @@
+pub mod Rows
+pub mod DecidingPlans
+pub mod Rotating
+pub mod Itemized
+pub mod ItemsNamed
+pub mod Owned
+pub mod Continued
+pub mod ContinuingPlans
+pub mod AskedNamed
+pub mod AskingPlans

@@ -1,0 +1,2 @@
+pub mod OutgoingPlans
+pub mod TransferPlans

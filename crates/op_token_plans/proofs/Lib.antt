@@ -1,0 +1,5 @@
+pub mod Admitting
+pub mod Looking
+pub mod Showing
+pub mod RowsRead
+pub mod Making
