@@ -1,0 +1,4 @@
+pub mod Names
+pub mod Leaving
+pub mod Taking
+pub mod Steady
