@@ -19,20 +19,17 @@ use Rattle.op_model.specs.declared.request.Task.TheVariants.{Ask}
 use Rattle.op_model.specs.declared.request.Verdict.{Verdict}
 use Rattle.op_legal.specs.Keeps.{IsAsked}
 use Rattle.op_legal.proofs.Next.{answered_next}
-use Rattle.op_wallet.specs.Answers.{Handles, reply_with}
-use Rattle.op_plans.specs.Plans.{IsPlan, is_built_request}
+use Rattle.op_plans.specs.Plans.{IsPlan}
+use Rattle.op_wallet.specs.Answers.{Handles, is_built_request, reply_with}
 use Rattle.op_wallet.specs.Wallets.{WalletValue, with_taken}
 use Rattle.op_plans.specs.declared.plan.Plan.TheVariants.{Refused, Told, Acts}
 
 -- ---- no fee is asked
 
 asks_no_fee : (history : List Entry) (t : ℕ) (request : Request) (verdict : Verdict) → IsTrue (is_built_request request) → fee_asked history t (Ask request verdict) ≡ None
-asks_no_fee history t (requests.SetOrigin origin) verdict built = refl
-asks_no_fee history t (requests.AddAsset asset pieces) verdict built = refl
-asks_no_fee history t (requests.AddAddress path asset name) verdict built = refl
-asks_no_fee history t (requests.SetRate source target rate) verdict built = refl
-asks_no_fee history t (requests.ReadAddress path) verdict built = refl
-asks_no_fee history t _ verdict built = absurd (let e : false ≡ true = built in cc)
+asks_no_fee history t (requests.MakeQuote address receiver asked) verdict built = absurd (let e : false ≡ true = built in cc)
+asks_no_fee history t (requests.MakeOutgoing address asked metadata) verdict built = absurd (let e : false ≡ true = built in cc)
+asks_no_fee history t _ verdict built = refl
 
 zero_is : (let n : ℕ = 0 in n ≡ 0)
 zero_is = refl

@@ -1,5 +1,5 @@
 pub mod Answering
 pub mod Based
-pub mod Built
 pub mod Histories
 pub mod Taking
+pub mod Words

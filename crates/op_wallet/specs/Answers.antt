@@ -1,26 +1,24 @@
 -- What a wallet answers.
-use Rattle.std.specs.Prelude.{ℕ, Bool, true, false, List, ◌++◌}
+use Rattle.std.specs.Prelude.{ℕ, Bool, false, ◌||◌, List, ◌++◌}
 use Rattle.std.specs.Option.{option_to_list}
 use Rattle.std.specs.declared.option.Option.{Option}
+use Rattle.op_grant_plans.specs.GrantPlans.{is_grant_request}
 use Rattle.op_model.specs.History.{origin_of}
 use Rattle.op_model.specs.Round.{FeesAllowed, Handled, IsHandledNext}
-use Rattle.op_model.specs.declared.act.Act.{Act}
-use Rattle.op_model.specs.declared.act.Act.TheVariants as acts
 use Rattle.op_model.specs.declared.act.Entry.{Entry}
 use Rattle.op_model.specs.declared.reply.Reply.{Reply}
 use Rattle.op_model.specs.declared.reply.ReplyBody.{ReplyBody}
+use Rattle.op_model.specs.declared.request.Request.{Request}
 use Rattle.op_model.specs.declared.request.Task.{Task}
 use Rattle.op_model.specs.declared.request.Task.TheVariants.{Ask}
-use Rattle.op_plans.specs.Plans.{is_built_request}
+use Rattle.op_money_plans.specs.Requests.{is_money_request}
+use Rattle.op_plans.specs.Plans.{is_provider_request}
+use Rattle.op_token_plans.specs.Requests.{is_token_request}
 
 -- ---- what is built so far
 
-abbrev pub is_built : Act → Bool
-is_built (acts.OriginSet origin) = true
-is_built (acts.AssetAdded code scale pieces) = true
-is_built (acts.AddressAdded path asset name) = true
-is_built (acts.RateSet source target num den) = true
-is_built _ = false
+abbrev pub is_built_request : Request → Bool
+is_built_request request = is_provider_request request || (is_money_request request || (is_grant_request request || is_token_request request))
 
 abbrev pub is_built_task : Task → Bool
 is_built_task (Ask request verdict) = is_built_request request

@@ -1,10 +1,8 @@
 -- What is seen of a wallet.
 use Rattle.std.specs.Prelude.{ℕ, List, [], ◌∷◌, ◌++◌}
 use Rattle.std.specs.declared.option.Option.{Option}
-use Rattle.op_model.specs.Legal.{IsLegal}
 use Rattle.op_model.specs.declared.act.Entry.{Entry}
-use Rattle.op_naming.specs.Names.{AreNames}
-use Rattle.op_naming.specs.declared.names.Names.{Names}
+use Rattle.op_parts.specs.Parts.{AreParts}
 use Rattle.op_wallet.specs.declared.wallet.Wallet.TheInside.{Inside}
 
 pub record WalletValue : Type 0 where
@@ -25,13 +23,9 @@ wallet_of w =
       spare = w.history.spare;
     }
 
--- each part of a wallet is what the history says of it
-pub record AreParts (history : List Entry) (names : Names) : Type 0 where
-  pub legal : IsLegal history
-  pub names_are : AreNames history names
-
+-- the parts of a wallet are those of its history
 abbrev pub IsWhole : Inside → Type 0
-IsWhole w = AreParts w.history.packed.entries w.names
+IsWhole w = AreParts w.history.packed.entries w.parts
 
 -- the wallet with one entry more
 abbrev pub with_taken : WalletValue → Entry → WalletValue

@@ -5,6 +5,7 @@
 #![tactic(auto)]
 
 mod history;
+mod planning;
 mod wallet;
 
 pub use history::History;

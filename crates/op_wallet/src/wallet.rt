@@ -6,16 +6,21 @@ ghost use Rattle.op_model.specs.Asking.{address_named};
 ghost use Rattle.op_model.specs.Legal.{IsLegal, IsNext, is_proper};
 ghost use Rattle.op_model.specs.Round.{refusal_reply};
 ghost use Rattle.op_model.specs.declared.reply.Refusal.TheVariants.{Memory};
-ghost use Rattle.op_wallet.specs.Answers.{is_built, is_built_task, reply_with, with_entry, Handles};
-ghost use Rattle.op_plans.specs.Plans.{IsPlanned, is_built_request};
+ghost use Rattle.op_granting.specs.Models.{next_place};
+ghost use Rattle.op_legal.specs.Records.{DrawsWord};
+ghost use Rattle.op_plans.specs.Plans.{IsPlan};
+ghost use Rattle.op_wallet.specs.Answers.{is_built_request, is_built_task, reply_with, with_entry, Handles};
 ghost use Rattle.op_wallet.specs.Wallets.{with_taken};
 
 use crate::history::History;
+use crate::planning::plan;
 use op_amount::Asset;
-use op_model::{Act, Entry, Refusal, Reply, ReplyBody, Request, Task, Word};
+use op_grant_plans::Context;
+use op_granting::NextEntry;
+use op_model::{Act, Entry, Refusal, Reply, ReplyBody, Request, Task, Verdict, Word};
 use op_names::{AddressName, Origin};
-use op_naming::Names;
-use op_plans::{Plan, plan_request};
+use op_parts::Parts;
+use op_plans::Plan;
 use op_pricing::{FeeRule, PriceHook};
 use op_time::Moment;
 use std::alloc::{AllocError, Global};
@@ -34,7 +39,7 @@ pub struct Outcome {
 #[derive(Drop)]
 pub struct Wallet {
     history: History,
-    names: Names,
+    parts: Parts,
 }
 
 impl Model for Wallet {
@@ -54,7 +59,7 @@ impl Wallet {
     {
         Ok(Wallet {
             history: History::new(alloc)?,
-            names: Names::new(alloc),
+            parts: Parts::new(alloc),
         })
     }
 
@@ -89,7 +94,7 @@ impl Wallet {
         ensures legal { IsLegal self.now.history }
         ensures later { IfSome self.now.moment (λ t. last_moment self.now.history ≤ t) }
     {
-        let _legal = &self.names;
+        let _legal = &self.parts;
         self.history.last()
     }
 
@@ -98,7 +103,7 @@ impl Wallet {
         ensures value { result ≡ length self.now.history }
         ensures legal { IsLegal self.now.history }
     {
-        let _legal = &self.names;
+        let _legal = &self.parts;
         self.history.count()
     }
 
@@ -115,28 +120,28 @@ impl Wallet {
     pub fn origin(&self) -> &Origin
         ensures { result.now ≡ origin_of self.now.history }
     {
-        self.names.origin()
+        self.parts.names.origin()
     }
 
     /// How many assets there are.
     pub fn assets(&self) -> u32
         ensures { result ≡ length (assets self.now.history) }
     {
-        self.names.asset_count()
+        self.parts.names.asset_count()
     }
 
     /// The number of an asset, if it is there.
     pub fn find_asset(&self, asset: &Asset) -> Option<u32>
         ensures { result ≡ asset_number self.now.history asset.now }
     {
-        self.names.find_asset(asset)
+        self.parts.names.find_asset(asset)
     }
 
     /// The number of a wallet address, if it is there under the wallet's origin.
     pub fn find_address(&self, name: &AddressName) -> Option<u32>
         ensures { result ≡ address_named self.now.history (Some name.now) }
     {
-        self.names.find_address(name)
+        self.parts.names.find_address(name)
     }
 
     /// The reply that refuses.
@@ -165,26 +170,51 @@ impl Wallet {
         }
     }
 
-    // What is to come of a request.
-    fn plan(&self, alloc: Global, request: &Request) -> Result<Plan, AllocError>
-        requires { IsTrue (is_built_request request.now) }
-        ensures { IfOk result (IsPlanned self.now.history request.now) }
+    // The place of the next entry, counted from 1.
+    fn next_place(&self) -> u64
+        requires { length self.now.history < 2 ^ 31 }
+        ensures { result ≡ next_place self.now.history }
     {
-        plan_request(alloc, &self.names, request)
+        self.history.count() + 1
     }
 
-    // Takes an entry whose act is built. Where memory is short, nothing has changed.
+    // What is to come of a request at a moment, with its task's word.
+    fn plan(
+        &self,
+        alloc: Global,
+        t: Moment,
+        word: &Word,
+        request: &Request,
+        verdict: &Verdict,
+    ) -> Result<Plan, AllocError>
+        requires built { IsTrue (is_built_request request.now) }
+        requires small { length self.now.history < 2 ^ 31 }
+        ensures { IfOk result (λ plan. (fee : ℕ) → IsPlan self.now.history t word.now fee request.now verdict.now plan) }
+    {
+        let next = NextEntry {
+            at: t,
+            place: self.next_place(),
+        };
+        let context = Context {
+            next,
+            word,
+            verdict,
+        };
+        plan(alloc, &self.parts, &context, request)
+    }
+
+    // Takes an entry. Where memory is short, nothing has changed.
     fn take(&mut self, alloc: Global, entry: &Entry) -> Result<(), AllocError>
         requires next { IsNext self.old.history entry.now }
-        requires built { IsTrue (is_built entry.now.act) }
+        requires word { DrawsWord entry.now.act }
         requires round { self.old.moment ≡ Some entry.now.at }
         requires small { length self.old.history < 2 ^ 31 }
         ensures ok { OnOk result (self.new ≡ with_taken self.old entry.now) }
         ensures err { OnErr result (self.new ≡ self.old) }
     {
-        let added = self.names.prepare(alloc, &entry.act)?;
+        let place = self.next_place();
         self.history.reserve_for(entry)?;
-        self.names.add(added);
+        self.parts.take(alloc, place, entry)?;
         self.history.push(entry);
         Ok(())
     }
@@ -192,7 +222,7 @@ impl Wallet {
     // Takes an act, and replies.
     fn act(&mut self, alloc: Global, t: Moment, act: Act, body: ReplyBody) -> Outcome
         requires next { IsNext self.old.history (record { at = t; act = act }) }
-        requires built { IsTrue (is_built act) }
+        requires word { DrawsWord act }
         requires round { self.old.moment ≡ Some t }
         requires small { length self.old.history < 2 ^ 31 }
         ensures some { IfSome result.entry (λ e. (e ≡ record { at = t; act = act }) × (self.new ≡ with_taken self.old e) × (result.reply ≡ reply_with self.new.history body)) }
@@ -233,10 +263,10 @@ impl Wallet {
     {
         let _at_most_last = t.ms();
         let _later = self.last();
-        let Task::Ask { request, .. } = task else {
+        let Task::Ask { request, verdict } = task else {
             unreachable!()
         };
-        match self.plan(alloc, request) {
+        match self.plan(alloc, t, word, request, verdict) {
             Ok(Plan::Refused(refusal)) => self.refused(refusal),
             Ok(Plan::Told(body)) => Outcome {
                 reply: self.reply(body),
