@@ -1,0 +1,7 @@
+mod Paths
+mod Texts
+mod Acts
+mod Refusals
+mod Histories
+mod Bodies
+mod Replies
