@@ -1,6 +1,6 @@
 # What a newcomer needs: `make demo` and `make test`. Both build what is missing.
 
-.PHONY: demo test wallet bench planted
+.PHONY: demo test wallet bench planted model interface
 
 SOURCES := crates.txt $(shell find crates -path '*/out' -prune -o -type f -print)
 
@@ -23,10 +23,19 @@ test:
 	$(MAKE) bin/wallet
 	sh checks/program.sh
 
-# Not part of the gate: what requests on a journal on disk cost, beside a C program that makes the same calls.
+# Not part of the gate: what requests on a journal on disk cost, beside a C program that makes the same calls, and what reading costs.
 bench: bin/wallet
 	python3 scripts/bench.py
 
 # Not part of the gate: each of six wrong definitions is refused by a worked row.
 planted:
 	python3 scripts/planted.py
+
+# Not part of the gate: the model of the whole wallet in Python, its tests, and 10,000 random tasks under the six laws.
+model:
+	python3 -B -m unittest discover -s scripts -p 'model*_test.py'
+	python3 -B scripts/random_tasks.py
+
+# Not part of the gate: the OpenAPI document, the pages beside it and the worked replies say the same.
+interface:
+	python3 scripts/interface.py
