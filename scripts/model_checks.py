@@ -28,7 +28,7 @@ def read_file(*parts):
 def examples(heading):
     """The JSON lines that stand below a heading of docs/API.md that begins so."""
     section = re.search(r"(?ms)^#+ %s.*?(?=^#+ |\Z)" % re.escape(heading), read_file("docs", "API.md")).group()
-    return re.findall(r"(?s)```json\n(.*?)\n```", section)
+    return re.findall(r"(?s)```json[^\n]*\n(.*?)\n```", section)
 
 
 def purchase(metadata=None):

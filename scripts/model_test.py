@@ -137,9 +137,9 @@ class PurchaseTest(Checks):
             play.add(*entry)
         shown = examples("GET `/incoming-payments`, GET `/outgoing-payments`")
         who = play.granted([item("incoming-payment", "list")])
-        self.says(play.get("/incoming-payments?wallet-address=https://wallet.example/shop", who), 200, shown[0])
+        self.says(play.get("/incoming-payments?wallet-address=https://wallet.example/shop", who), 200, shown[2])
         who = play.granted([paying("/alice", "list")])
-        self.says(play.get("/outgoing-payments?wallet-address=https://wallet.example/alice", who), 200, shown[1])
+        self.says(play.get("/outgoing-payments?wallet-address=https://wallet.example/alice", who), 200, shown[3])
 
     def test_quote_is_shown_to_one_who_may_read(self):
         play, _ = purchase()
@@ -232,7 +232,7 @@ class FormsTest(Checks):
 
     def test_proof_of_the_document(self):
         section = read_file("docs", "API.md").split("without `authorization`:")[1]
-        body = re.search("```json\n(.*?)\n```", section).group(1).encode()
+        body = re.search("```json[^\n]*\n(.*?)\n```", section).group(1).encode()
         proof = proof_of(NO_MASTER, SHOP, "POST", "/grant", body, None)
         self.assertEqual(proof, "e1508c6f21a328bd0df8f6a986bedbb2852c2fc5c76245138879b2ac161ca420")
         self.assertIn(proof, section)
